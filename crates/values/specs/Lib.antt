@@ -1,6 +1,6 @@
 pub mod Value
 pub mod Meaning
-pub mod Written
 pub mod Steps
 pub mod Found
-pub mod Laws
+pub mod RowsOf
+pub mod Keys

@@ -1,8 +1,4 @@
-// What the records of a tray stand for: steps into a value, its text, and when two are equal.
-pub mod equals;
+// What the records of a tray stand for, the steps into a value, and the rows that a loop may go over.
 pub mod finds;
-mod leaves;
-mod parts;
+pub mod rows;
 pub mod steps;
-pub mod texts;
-pub mod writes;

@@ -1,19 +1,35 @@
+use mathlib.Core.Path.{_≡_, refl, ap, _∙_}
 use native.Mathlib.Omega.{arith}
-use Rattle.values.proofs.Loops.{seek-none, seek-more, seek-here, seek-all}
+use Prim.Native.Nat.{_+_, _*_, _<_}
+use Rattle.std.specs.Options.{mapped}
+use Rattle.tray.specs.Parts.{sameText}
+use Rattle.values.specs.Meaning.{valueOf, textAt}
+use Rattle.values.specs.Keys.{keyText}
+use Rattle.values.specs.declared.finds.Key.{Key}
+use Rattle.values.specs.declared.finds.Key.the-variants.{Entry, Sought}
+use Rattle.values.proofs.Listing.{find-first, place-below}
 use Rattle.values.proofs.finds.find_in.Needs as need
 
-pub loop-j-holds : need.loop-j-holds
-loop-j-holds c = seek-none _ _ _ _ _
+below : (c : need.In-Some) → c .in-Some .j < c .args .count
+below c = place-below Entry (c .args .first) 2 (c .args .count) (c .in-Some .j) _ (c .in-Some .ensures tt .first .at)
 
-pub returns-then-same-text : need.returns-then-same-text
-returns-then-same-text c =
-    record {
-      value = seek-here (c .loop-j .inv) _ (c .text-of .ensures) (c .if-same-text .ensures tt) (omega arith);
-      place = (omega arith, omega arith);
-    }
+pub mul-result : need.mul-result
+mul-result c = omega (arith, below c)
 
-pub loop-j-again : need.loop-j-again
-loop-j-again c = seek-more (c .loop-j .inv) _ (c .text-of .ensures) (c .if-same-text .ensures tt) (omega arith)
+pub add-result : need.add-result
+add-result c = omega (arith, below c)
 
-pub returns : need.returns
-returns c = record { value = seek-all (c .loop-j .inv) (omega arith); place = tt }
+pub add-result-in-Some : need.add-result-in-Some
+add-result-in-Some c = omega (arith, below c)
+
+pub returns-in-Some : need.returns-in-Some
+returns-in-Some c =
+    let t = c .args .tray .now in
+    let q = c .args .key .now in
+    record { value = ap (mapped (λ j. valueOf t (c .args .first + 2 * j + 1))) (c .in-Some .ensures tt .place) ∙ find-first q (textAt t) (valueOf t) Entry (λ x. sameText (keyText t q Sought) (keyText t q x)) (λ i. refl) (c .args .first) (c .args .count); place = (omega arith, omega (arith, below c)) }
+
+pub returns-in-None : need.returns-in-None
+returns-in-None c =
+    let t = c .args .tray .now in
+    let q = c .args .key .now in
+    record { value = ap (mapped (λ j. valueOf t (c .args .first + 2 * j + 1))) (c .in-None .ensures tt .place) ∙ find-first q (textAt t) (valueOf t) Entry (λ x. sameText (keyText t q Sought) (keyText t q x)) (λ i. refl) (c .args .first) (c .args .count); place = tt }
