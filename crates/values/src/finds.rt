@@ -81,7 +81,11 @@ pub fn find_in(tray: &Tray, first: u16, count: u16, key: &[u8]) -> Option<usize>
     ensures value { λ r. ⌜ mapped (valueOf (now (tray .entry))) r ≡ findIn (now (key .entry)) (entriesFrom (textAt (now (tray .entry))) (valueOf (now (tray .entry))) first count) ⌝ }
     ensures place { λ r. ⌜ Cases r (Unit {0}) (λ c. (first < c) × (c < first + 2 * count)) ⌝ }
 {
-    match first_match(&Keys { first, count }, &SameKey { tray, sought: key }, &Key::Sought) {
+    match first_match(
+        &Keys { first, count },
+        &SameKey { tray, sought: key },
+        &Key::Sought,
+    ) {
         Some(j) => Some(first as usize + 2 * j + 1),
         None => None,
     }

@@ -45,7 +45,9 @@ pub impl Row for Items as ItemsRow {
 
     fn item(&self, k: usize) -> Option<Held> {
         if k < self.count as usize {
-            Some(Held { number: self.first as usize + k })
+            Some(Held {
+                number: self.first as usize + k,
+            })
         } else {
             None
         }
@@ -64,7 +66,9 @@ pub impl Row for Pairs as PairsRow {
 
     fn item(&self, k: usize) -> Option<Pair> {
         if k < self.entries as usize {
-            Some(Pair { key: self.first as usize + 2 * k })
+            Some(Pair {
+                key: self.first as usize + 2 * k,
+            })
         } else {
             None
         }
@@ -87,7 +91,10 @@ pub fn pairs_of(tray: &Tray, i: usize) -> Option<Pairs>
     ensures { λ r. ⌜ mapped (λ s. map (pairValue (now (tray .entry))) (map pairAt (stepping (s .first) 2 (s .entries)))) r ≡ pairsOf (valueOf (now (tray .entry)) i) ⌝ }
 {
     match tray.record(i) {
-        Record::Object(first, count) => Some(Pairs { first, entries: count }),
+        Record::Object(first, count) => Some(Pairs {
+            first,
+            entries: count,
+        }),
         _ => None,
     }
 }
