@@ -149,56 +149,59 @@ mod tests {
     use super::*;
     use std::test::*;
 
+    // 21 bytes `x` with the text of `n` written over them.
+    fn over(n: i64) -> ([u8; 21], Option<usize>) {
+        let mut out = [b'x'; 21];
+        let len = write_whole(n, &mut out);
+        (out, len)
+    }
+
     #[test]
     fn writing() -> Result<(), Fail> {
-        let mut out = [b'x'; 4];
-        check_eq(write_whole(0, &mut out), Some(1))?;
-        check_eq(out, *b"0xxx")?;
-        check_eq(write_whole(-1, &mut out), Some(2))?;
-        check_eq(out, *b"-1xx")?;
-        check_eq(write_whole(9876, &mut out), Some(4))?;
-        check_eq(out, *b"9876")
+        check_eq(over(0), (*b"0xxxxxxxxxxxxxxxxxxxx", Some(1)))?;
+        check_eq(over(-1), (*b"-1xxxxxxxxxxxxxxxxxxx", Some(2)))?;
+        check_eq(over(i64::MAX), (*b"9223372036854775807xx", Some(19)))?;
+        check_eq(over(i64::MIN), (*b"-9223372036854775808x", Some(20)))
     }
 
     #[test]
-    fn extremes() -> Result<(), Fail> {
-        let mut out = [b'x'; 20];
-        check_eq(write_whole(i64::MAX, &mut out), Some(19))?;
-        check_eq(out, *b"9223372036854775807x")?;
-        check_eq(write_whole(i64::MIN, &mut out), Some(20))?;
-        check_eq(out, *b"-9223372036854775808")
-    }
-
-    #[test]
-    fn no_room() -> Result<(), Fail> {
-        let mut short = [b'x'; 19];
-        check_eq(write_whole(i64::MIN, &mut short), None)?;
-        check_eq(short, [b'x'; 19])?;
+    fn room() -> Result<(), Fail> {
+        let mut exact = [b'x'; 3];
+        check_eq(write_whole(-42, &mut exact), Some(3))?;
+        check_eq(exact, *b"-42")?;
+        let mut short = [b'x'; 2];
+        check_eq(write_whole(-42, &mut short), None)?;
+        check_eq(short, *b"xx")?;
         check_eq(write_whole(0, &mut []), None)
     }
 
     #[test]
     fn reading() -> Result<(), Fail> {
-        check_eq(read_whole(b"+5"), Some(5))?;
-        check_eq(read_whole(b"-0"), Some(0))?;
-        check_eq(read_whole(b"007"), Some(7))?;
-        check_eq(read_whole(b"9223372036854775807"), Some(i64::MAX))?;
-        check_eq(read_whole(b"-9223372036854775808"), Some(i64::MIN))?;
         let mut zeros = [b'0'; 301];
         zeros[300] = b'7';
-        check_eq(read_whole(&zeros), Some(7))
+        check_eq(read_whole(&zeros), Some(7))?;
+        check_eq(read_whole(b"+5"), Some(5))?;
+        check_eq(read_whole(b"-0"), Some(0))?;
+        check_eq(read_whole(b"9223372036854775807"), Some(i64::MAX))?;
+        check_eq(read_whole(b"-9223372036854775808"), Some(i64::MIN))
     }
 
     #[test]
     fn refusing() -> Result<(), Fail> {
-        check_eq(read_whole(b""), None)?;
-        check_eq(read_whole(b"+"), None)?;
-        check_eq(read_whole(b"-"), None)?;
-        check_eq(read_whole(b"+-5"), None)?;
-        check_eq(read_whole(b" 1"), None)?;
-        check_eq(read_whole(b"1 "), None)?;
-        check_eq(read_whole(b"1a"), None)?;
-        check_eq(read_whole(b"9223372036854775808"), None)?;
-        check_eq(read_whole(b"-9223372036854775809"), None)
+        let texts: [&[u8]; 9] = [
+            b"",
+            b"+",
+            b"-",
+            b"+-5",
+            b" 1",
+            b"1 ",
+            b"1a",
+            b"9223372036854775808",
+            b"-9223372036854775809",
+        ];
+        for text in texts.iter() {
+            check_eq(read_whole(text), None)?;
+        }
+        Ok(())
     }
 }
