@@ -1,0 +1,19 @@
+-- A loop that writes a piece for each element of a list.
+use mathlib.Core.List.{List, [], _∷_, _++_, append-assoc}
+use mathlib.Core.Path.{_≡_, sym, ap, _∙_}
+use Prim.Native.Nat.{ℕ, _+_, _<_, _≤_}
+use lib.ListN.{length, getD, take}
+use Rattle.std.proofs.shelf.Lists.{joined-more, take-more, take-all}
+use Rattle.std.specs.Joined.{joined}
+
+-- the pieces of the first i elements behind bs, and then one more
+pub one-more : {X : Type 0} (f : X → List ℕ) (bs : List ℕ) (xs : List X) (i : ℕ) (d : X) {before after : List ℕ} → i < length xs → before ≡ bs ++ joined f (take i xs) → after ≡ before ++ f (getD xs i d) → after ≡ bs ++ joined f (take (i + 1) xs)
+one-more f bs xs i d h e g =
+    g ∙ ap (λ l. l ++ f (getD xs i d)) e ∙ joined-more f bs (take i xs) (getD xs i d) ∙ ap (λ l. bs ++ joined f l) (sym (take-more xs i d h))
+
+pub all-done : {X : Type 0} (f : X → List ℕ) (bs : List ℕ) (xs : List X) (i : ℕ) {before : List ℕ} → length xs ≤ i → before ≡ bs ++ joined f (take i xs) → before ≡ bs ++ joined f xs
+all-done f bs xs i h e = e ∙ ap (λ l. bs ++ joined f l) (take-all i xs h)
+
+-- three pieces, one after another
+pub three : (a b c d : List ℕ) {x y z : List ℕ} → x ≡ a ++ b → y ≡ x ++ c → z ≡ y ++ d → z ≡ a ++ (b ++ (c ++ d))
+three a b c d p q r = r ∙ ap (λ l. l ++ d) (q ∙ ap (λ l. l ++ c) p) ∙ (simp append-assoc)

@@ -1,0 +1,2 @@
+pub mod Quote
+pub mod Spelling

@@ -1,0 +1,94 @@
+//! What a tray holds, line by line.
+
+ghost use mathlib.Core.List.{_++_};
+ghost use mathlib.Core.Path.{_≡_};
+ghost use lib.Chars.{codes};
+ghost use Rattle.std.specs.Of.Vec.{vec-items};
+ghost use Rattle.std.specs.Vec.{made};
+use crate::quote::push_quoted;
+use std::alloc::AllocError;
+use std::alloc::Global;
+use std::io;
+use std::io::Write;
+use tray::records::Record;
+use tray::trays::Tray;
+use values::text_len;
+use values::write_text;
+
+// No value has a longer text: no text is held twice, and a tray has at most 2,048 records of at most 256 bytes.
+const LONGEST: usize = 524288;
+
+// Prints a line for each host name.
+pub(crate) fn show(rt: &LibcRuntime, tray: &Tray) -> io::Result<()> {
+    let Record::Object(first, count) = tray.record(0) else {
+        return Ok(());
+    };
+    if count == 0 {
+        return rt.stdout().write_all(b"show nothing: the tray has no names\n");
+    }
+    for i in 0..count as usize {
+        let key = first as usize + 2 * i;
+        let line = entry_line(rt.alloc(), tray, key)?;
+        rt.stdout().write_all(line.as_slice())?;
+    }
+    Ok(())
+}
+
+// The line of the entry whose key is the record `key`.
+fn entry_line(heap: Global, tray: &Tray, key: usize) -> Result<Vec<u8>, AllocError> {
+    let value = key.saturating_add(1);
+    let text = value_text(heap, tray, value)?;
+    let mut line = Vec::from_slice(heap, b"show ")?;
+    push_name(&mut line, tray.text_part(key))?;
+    line.push(b' ')?;
+    line.extend_from_slice(kind_word(tray.record(value)).as_bytes())?;
+    line.extend_from_slice(b" text=")?;
+    push_quoted(&mut line, text.as_slice())?;
+    line.push(b'\n')?;
+    Ok(line)
+}
+
+// The text of the value record `i`.
+fn value_text(heap: Global, tray: &Tray, i: usize) -> Result<Vec<u8>, AllocError> {
+    let len = text_len(tray, i, LONGEST).unwrap_or(0);
+    let mut text = vec![in heap; 0; len]?;
+    let _ = write_text(tray, i, text.as_mut_slice());
+    Ok(text)
+}
+
+fn kind_word(it: Record) -> &'static str {
+    match it {
+        Record::Nil => "nil",
+        Record::Boolean(_) => "boolean",
+        Record::Whole(_) => "number",
+        Record::Text(_, _) => "text",
+        Record::Array(_, _) => "array",
+        Record::Object(_, _) => "object",
+    }
+}
+
+// A name stands bare, any other text in quotes.
+fn push_name(out: &mut Vec<u8>, text: &[u8]) -> Result<(), AllocError> {
+    if is_name(text) { out.extend_from_slice(text) } else { push_quoted(out, text) }
+}
+
+// A name is a letter or an underscore, then letters, digits, underscores and hyphens.
+fn is_name(text: &[u8]) -> bool {
+    if text.len() == 0 || !begins_name(text[0]) {
+        return false;
+    }
+    for b in text {
+        if !goes_on(*b) {
+            return false;
+        }
+    }
+    true
+}
+
+fn begins_name(b: u8) -> bool {
+    matches!(b, b'a'..=b'z' | b'A'..=b'Z' | b'_')
+}
+
+fn goes_on(b: u8) -> bool {
+    matches!(b, b'a'..=b'z' | b'A'..=b'Z' | b'_' | b'0'..=b'9' | b'-')
+}
