@@ -1,0 +1,3 @@
+pub mod Decimal
+pub mod Bounds
+pub mod Laws
