@@ -17,3 +17,7 @@ all-done f bs xs i h e = e ∙ ap (λ l. bs ++ joined f l) (take-all i xs h)
 -- three pieces, one after another
 pub three : (a b c d : List ℕ) {x y z : List ℕ} → x ≡ a ++ b → y ≡ x ++ c → z ≡ y ++ d → z ≡ a ++ (b ++ (c ++ d))
 three a b c d p q r = r ∙ ap (λ l. l ++ d) (q ∙ ap (λ l. l ++ c) p) ∙ (simp append-assoc)
+
+-- two pieces, the second known by another name
+pub then : (a b : List ℕ) {c d x y : List ℕ} → x ≡ a ++ b → y ≡ x ++ c → c ≡ d → y ≡ a ++ (b ++ d)
+then a b {c} {d} p q e = q ∙ ap (λ l. l ++ c) p ∙ append-assoc a b c ∙ ap (λ l. a ++ (b ++ l)) e

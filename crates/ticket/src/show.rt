@@ -39,7 +39,7 @@ fn entry_line(heap: Global, tray: &Tray, key: usize) -> Result<Vec<u8>, AllocErr
     let value = key.saturating_add(1);
     let text = value_text(heap, tray, value)?;
     let mut line = Vec::from_slice(heap, b"show ")?;
-    push_name(&mut line, tray.text_part(key))?;
+    push_name(&mut line, tray.text_of(key))?;
     line.push(b' ')?;
     line.extend_from_slice(kind_word(tray.record(value)).as_bytes())?;
     line.extend_from_slice(b" text=")?;
