@@ -21,3 +21,9 @@ three a b c d p q r = r ∙ ap (λ l. l ++ d) (q ∙ ap (λ l. l ++ c) p) ∙ (s
 -- two pieces, the second known by another name
 pub then : (a b : List ℕ) {c d x y : List ℕ} → x ≡ a ++ b → y ≡ x ++ c → c ≡ d → y ≡ a ++ (b ++ d)
 then a b {c} {d} p q e = q ∙ ap (λ l. l ++ c) p ∙ append-assoc a b c ∙ ap (λ l. a ++ (b ++ l)) e
+
+-- seven pieces, from nothing
+pub seven : (a b c d e f g : List ℕ) {s t u v w x y z : List ℕ} → s ≡ [] → t ≡ s ++ a → u ≡ t ++ b → v ≡ u ++ c → w ≡ v ++ d → x ≡ w ++ e → y ≡ x ++ f → z ≡ y ++ g → z ≡ a ++ (b ++ (c ++ (d ++ (e ++ (f ++ g)))))
+seven a b c d e f g p0 p1 p2 p3 p4 p5 p6 p7 =
+    let first = three a b c d (p2 ∙ ap (λ l. l ++ b) (p1 ∙ ap (λ l. l ++ a) p0)) p3 p4 in
+    three (a ++ (b ++ (c ++ d))) e f g (p5 ∙ ap (λ l. l ++ e) first) p6 p7 ∙ (simp append-assoc)

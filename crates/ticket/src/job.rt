@@ -6,7 +6,6 @@ use crate::cursor::Cursor;
 use crate::json;
 use crate::json::errors::Fault;
 use crate::json::errors::FaultDebug;
-use crate::json::errors::FaultPartialEq;
 use crate::json::errors::JsonError;
 use crate::layout::LayoutError;
 use crate::layout::Unsaid;
@@ -37,7 +36,7 @@ pub(crate) enum Action {
 }
 
 // Why a line is no action.
-#[derive(Clone, Copy, Debug, PartialEq)]
+#[derive(Clone, Copy, Debug)]
 pub(crate) enum LineFault {
     UnknownWord,
     NoFileName,
@@ -61,7 +60,7 @@ impl LineFault {
 }
 
 // A fault, with its place in the line from 0; or want of memory.
-#[derive(Clone, Copy, Debug, PartialEq)]
+#[derive(Clone, Copy)]
 pub(crate) enum LineError {
     Memory,
     Bad(usize, LineFault),

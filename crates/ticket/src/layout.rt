@@ -9,7 +9,7 @@ use std::alloc::Refused;
 use tray::records::Record;
 
 // What a record cannot say: each of its numbers has two bytes.
-#[derive(Clone, Copy, Debug, PartialEq)]
+#[derive(Clone, Copy)]
 pub(crate) enum Unsaid {
     Place,
     Length,
@@ -28,7 +28,7 @@ impl Unsaid {
     }
 }
 
-#[derive(Clone, Copy, Debug)]
+#[derive(Clone, Copy)]
 pub(crate) enum LayoutError {
     Memory,
     Unsaid(Unsaid),

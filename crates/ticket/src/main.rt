@@ -8,6 +8,8 @@ mod quote;
 mod run;
 mod show;
 mod spelling;
+#[cfg(test)]
+mod tests;
 
 use crate::job::JobErrorError;
 use std::env;

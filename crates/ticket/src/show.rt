@@ -2,9 +2,10 @@
 
 ghost use mathlib.Core.List.{_++_};
 ghost use mathlib.Core.Path.{_≡_};
-ghost use lib.Chars.{codes};
 ghost use Rattle.std.specs.Of.Vec.{vec-items};
 ghost use Rattle.std.specs.Vec.{made};
+ghost use Rattle.ticket.specs.Names.{begins, goesOn, allGoOn, isName};
+ghost use Rattle.ticket.specs.Show.{kindWord, shownName, nameLine};
 use crate::quote::push_quoted;
 use std::alloc::AllocError;
 use std::alloc::Global;
@@ -38,14 +39,7 @@ pub(crate) fn show(rt: &LibcRuntime, tray: &Tray) -> io::Result<()> {
 fn entry_line(heap: Global, tray: &Tray, key: usize) -> Result<Vec<u8>, AllocError> {
     let value = key.saturating_add(1);
     let text = value_text(heap, tray, value)?;
-    let mut line = Vec::from_slice(heap, b"show ")?;
-    push_name(&mut line, tray.text_of(key))?;
-    line.push(b' ')?;
-    line.extend_from_slice(kind_word(tray.record(value)).as_bytes())?;
-    line.extend_from_slice(b" text=")?;
-    push_quoted(&mut line, text.as_slice())?;
-    line.push(b'\n')?;
-    Ok(line)
+    name_line(heap, tray.text_of(key), kind_word(tray.record(value)), text.as_slice())
 }
 
 // The text of the value record `i`.
@@ -56,27 +50,36 @@ fn value_text(heap: Global, tray: &Tray, i: usize) -> Result<Vec<u8>, AllocError
     Ok(text)
 }
 
-fn kind_word(it: Record) -> &'static str {
-    match it {
-        Record::Nil => "nil",
-        Record::Boolean(_) => "boolean",
-        Record::Whole(_) => "number",
-        Record::Text(_, _) => "text",
-        Record::Array(_, _) => "array",
-        Record::Object(_, _) => "object",
-    }
+fn name_line(heap: Global, name: &[u8], kind: &str, text: &[u8]) -> Result<Vec<u8>, AllocError>
+    ensures { λ r. ⌜ made r (λ v. vec-items v ≡ nameLine (now (name .entry)) (now (kind .entry)) (now (text .entry))) ⌝ }
+{
+    let mut line = Vec::new(heap);
+    line.extend_from_slice(b"show ")?;
+    push_name(&mut line, name)?;
+    line.extend_from_slice(b" ")?;
+    line.extend_from_slice(kind.as_bytes())?;
+    line.extend_from_slice(b" text=")?;
+    push_quoted(&mut line, text)?;
+    line.extend_from_slice(b"\n")?;
+    Ok(line)
 }
 
 // A name stands bare, any other text in quotes.
-fn push_name(out: &mut Vec<u8>, text: &[u8]) -> Result<(), AllocError> {
+fn push_name(out: &mut Vec<u8>, text: &[u8]) -> Result<(), AllocError>
+    ensures { λ r. ⌜ made r (λ _. vec-items (now (out .exit)) ≡ vec-items (now (out .entry)) ++ shownName (now (text .entry))) ⌝ }
+{
     if is_name(text) { out.extend_from_slice(text) } else { push_quoted(out, text) }
 }
 
-// A name is a letter or an underscore, then letters, digits, underscores and hyphens.
-fn is_name(text: &[u8]) -> bool {
-    if text.len() == 0 || !begins_name(text[0]) {
-        return false;
-    }
+fn is_name(text: &[u8]) -> bool
+    ensures { λ r. ⌜ r ≡ isName (now (text .entry)) ⌝ }
+{
+    text.len() > 0 && begins_name(text[0]) && all_go_on(text)
+}
+
+fn all_go_on(text: &[u8]) -> bool
+    ensures { λ r. ⌜ r ≡ allGoOn (now (text .entry)) ⌝ }
+{
     for b in text {
         if !goes_on(*b) {
             return false;
@@ -85,10 +88,27 @@ fn is_name(text: &[u8]) -> bool {
     true
 }
 
-fn begins_name(b: u8) -> bool {
-    matches!(b, b'a'..=b'z' | b'A'..=b'Z' | b'_')
+fn begins_name(b: u8) -> bool
+    ensures { λ r. ⌜ r ≡ begins b ⌝ }
+{
+    matches!(b, b'A'..=b'Z' | b'_' | b'a'..=b'z')
 }
 
-fn goes_on(b: u8) -> bool {
-    matches!(b, b'a'..=b'z' | b'A'..=b'Z' | b'_' | b'0'..=b'9' | b'-')
+fn goes_on(b: u8) -> bool
+    ensures { λ r. ⌜ r ≡ goesOn b ⌝ }
+{
+    matches!(b, b'-' | b'0'..=b'9' | b'A'..=b'Z' | b'_' | b'a'..=b'z')
+}
+
+fn kind_word(it: Record) -> &'static str
+    ensures { λ r. ⌜ now r ≡ kindWord it ⌝ }
+{
+    match it {
+        Record::Nil => "nil",
+        Record::Boolean(_) => "boolean",
+        Record::Whole(_) => "number",
+        Record::Text(_, _) => "text",
+        Record::Array(_, _) => "array",
+        Record::Object(_, _) => "object",
+    }
 }

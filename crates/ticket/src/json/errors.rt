@@ -3,9 +3,10 @@
 use std::alloc::AllocError;
 use std::alloc::Refused;
 
-#[derive(Clone, Copy, Debug, PartialEq)]
+#[derive(Clone, Copy, Debug)]
 pub(crate) enum Fault {
     Ended,
+    NotJson,
     NoValue,
     NoKey,
     NoColon,
@@ -27,6 +28,7 @@ impl Fault {
     pub(crate) fn words(self) -> &'static str {
         match self {
             Fault::Ended => "the JSON ends too soon",
+            Fault::NotJson => "this is not JSON",
             Fault::NoValue => "a value is wanted here",
             Fault::NoKey => "a key in quotes is wanted here",
             Fault::NoColon => "a colon is wanted here",
@@ -47,7 +49,7 @@ impl Fault {
 }
 
 // A fault with its place, the number of bytes before it; or want of memory.
-#[derive(Clone, Copy, Debug, PartialEq)]
+#[derive(Clone, Copy)]
 pub(crate) enum JsonError {
     Memory,
     Bad(usize, Fault),

@@ -34,7 +34,7 @@ impl<'a> Cursor<'a> {
             Some(b'n') => self.constant(at, b"ull", Kind::Nil),
             Some(b't') => self.constant(at, b"rue", Kind::Flag(true)),
             Some(b'f') => self.constant(at, b"alse", Kind::Flag(false)),
-            Some(_) => Err(JsonError::Bad(at, Fault::NoValue)),
+            Some(_) => Err(JsonError::Bad(at, Fault::NotJson)),
             None => Err(JsonError::Bad(at, Fault::Ended)),
         }
     }
@@ -45,7 +45,7 @@ impl<'a> Cursor<'a> {
     {
         for b in rest {
             if !self.take_if(*b) {
-                return Err(JsonError::Bad(at, Fault::NoValue));
+                return Err(JsonError::Bad(at, Fault::NotJson));
             }
         }
         Ok(Token::Leaf(kind))
