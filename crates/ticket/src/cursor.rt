@@ -15,7 +15,10 @@ pub(crate) struct Cursor<'a> {
 
 impl<'a> Cursor<'a> {
     pub(crate) fn new(src: &'a [u8]) -> Cursor<'a> {
-        Cursor { rest: src, whole: src.len() }
+        Cursor {
+            rest: src,
+            whole: src.len(),
+        }
     }
 
     // How many bytes were taken.

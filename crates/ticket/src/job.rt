@@ -76,7 +76,11 @@ pub(crate) impl From<AllocError> for LineError as LineErrorFromAlloc {
 #[derive(Clone, Copy, Debug)]
 pub(crate) enum JobError {
     Memory,
-    Bad { line: usize, column: usize, fault: LineFault },
+    Bad {
+        line: usize,
+        column: usize,
+        fault: LineFault,
+    },
 }
 
 pub(crate) impl<T: Drop> From<Refused<T>> for JobError as JobErrorFromRefused {
@@ -89,7 +93,11 @@ pub(crate) impl fmt::Display for JobError as JobErrorDisplay {
     fn fmt<W: fmt::Write>(&self, f: &mut fmt::Formatter<W>) -> fmt::Result {
         match self {
             JobError::Memory => write!(f, "no memory"),
-            JobError::Bad { line, column, fault } => {
+            JobError::Bad {
+                line,
+                column,
+                fault,
+            } => {
                 let words = fault.words();
                 write!(f, "line {line}, column {column}: {words}")
             }
@@ -100,7 +108,11 @@ pub(crate) impl fmt::Display for JobError as JobErrorDisplay {
 pub(crate) impl Error for JobError as JobErrorError {}
 
 // Reads the actions of `job` into `actions`, up to the first line that is none.
-pub(crate) fn read_job(rt: &LibcRuntime, job: &[u8], actions: &mut Vec<Action>) -> Result<(), JobError> {
+pub(crate) fn read_job(
+    rt: &LibcRuntime,
+    job: &[u8],
+    actions: &mut Vec<Action>,
+) -> Result<(), JobError> {
     let mut rest = job;
     let mut line = 0;
     while rest.len() > 0 {
@@ -112,7 +124,11 @@ pub(crate) fn read_job(rt: &LibcRuntime, job: &[u8], actions: &mut Vec<Action>) 
             Ok(None) => {}
             Err(LineError::Memory) => return Err(JobError::Memory),
             Err(LineError::Bad(at, fault)) => {
-                return Err(JobError::Bad { line, column: at.saturating_add(1), fault });
+                return Err(JobError::Bad {
+                    line,
+                    column: at.saturating_add(1),
+                    fault,
+                });
             }
         }
     }
@@ -172,7 +188,10 @@ fn read_host(heap: Global, cursor: Cursor<'_>) -> Result<Action, LineError> {
     match lay_out(heap, &host) {
         Ok(records) => {
             let records = spell_all(heap, records.as_slice())?;
-            Ok(Action::Open(TrayBytes { records, text: host.texts }))
+            Ok(Action::Open(TrayBytes {
+                records,
+                text: host.texts,
+            }))
         }
         Err(LayoutError::Memory) => Err(LineError::Memory),
         Err(LayoutError::Unsaid(what)) => Ok(Action::NotLaidOut(what)),

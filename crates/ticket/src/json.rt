@@ -29,5 +29,8 @@ pub(crate) fn read(heap: Global, src: &[u8]) -> Result<Json, JsonError> {
     if cursor.peek().is_some() {
         return Err(JsonError::Bad(cursor.at(), Fault::LeftOver));
     }
-    Ok(Json { nodes: tree.into_nodes(), texts })
+    Ok(Json {
+        nodes: tree.into_nodes(),
+        texts,
+    })
 }

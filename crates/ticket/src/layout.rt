@@ -72,7 +72,10 @@ fn lay_one(nodes: &[Node], at: usize, order: &mut Vec<usize>) -> Result<Record, 
         Kind::Nil => Ok(Record::Nil),
         Kind::Flag(b) => Ok(Record::Boolean(b)),
         Kind::Whole(n) => Ok(Record::Whole(n)),
-        Kind::Text(place, len) => Ok(Record::Text(short(place, Unsaid::Place)?, short(len, Unsaid::Length)?)),
+        Kind::Text(place, len) => Ok(Record::Text(
+            short(place, Unsaid::Place)?,
+            short(len, Unsaid::Length)?,
+        )),
         Kind::Array(n) => {
             let count = short(n, Unsaid::Count)?;
             join_parts(nodes, at, count as usize, order)?;
@@ -94,7 +97,12 @@ fn short(n: usize, what: Unsaid) -> Result<u16, LayoutError> {
 }
 
 // The first `width` parts of the holder `at` join the end of `order`.
-fn join_parts(nodes: &[Node], at: usize, width: usize, order: &mut Vec<usize>) -> Result<(), LayoutError> {
+fn join_parts(
+    nodes: &[Node],
+    at: usize,
+    width: usize,
+    order: &mut Vec<usize>,
+) -> Result<(), LayoutError> {
     let mut part = at.saturating_add(1);
     for _ in 0..width {
         order.push(part)?;

@@ -35,7 +35,16 @@ fn push_byte(out: &mut Vec<u8>, b: u8) -> Result<(), AllocError>
         b'\n' => out.extend_from_slice(b"\\n"),
         b'\r' => out.extend_from_slice(b"\\r"),
         b'\t' => out.extend_from_slice(b"\\t"),
-        0..=31 | 127 => out.extend_from_slice(&[b'\\', b'u', b'0', b'0', hex_digit(b / 16), hex_digit(b % 16)]),
+        0..=31 | 127 => out.extend_from_slice(
+            &[
+                b'\\',
+                b'u',
+                b'0',
+                b'0',
+                hex_digit(b / 16),
+                hex_digit(b % 16),
+            ],
+        ),
         _ => out.extend_from_slice(&[b]),
     }
 }

@@ -11,7 +11,11 @@ pub(crate) fn run(rt: &LibcRuntime, actions: &[Action]) -> io::Result<()> {
     let mut tray: Option<Tray> = None;
     for action in actions {
         match action {
-            Action::Open(bytes) => match Tray::open(rt.alloc(), bytes.records.as_slice(), bytes.text.as_slice()) {
+            Action::Open(bytes) => match Tray::open(
+                rt.alloc(),
+                bytes.records.as_slice(),
+                bytes.text.as_slice(),
+            ) {
                 Ok(opened) => {
                     say_opened(rt, opened.count())?;
                     tray = Some(opened);

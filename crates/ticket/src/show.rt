@@ -25,7 +25,8 @@ pub(crate) fn show(rt: &LibcRuntime, tray: &Tray) -> io::Result<()> {
         return Ok(());
     };
     if count == 0 {
-        return rt.stdout().write_all(b"show nothing: the tray has no names\n");
+        return rt.stdout()
+            .write_all(b"show nothing: the tray has no names\n");
     }
     for i in 0..count as usize {
         let key = first as usize + 2 * i;
@@ -39,7 +40,12 @@ pub(crate) fn show(rt: &LibcRuntime, tray: &Tray) -> io::Result<()> {
 fn entry_line(heap: Global, tray: &Tray, key: usize) -> Result<Vec<u8>, AllocError> {
     let value = key.saturating_add(1);
     let text = value_text(heap, tray, value)?;
-    name_line(heap, tray.text_of(key), kind_word(tray.record(value)), text.as_slice())
+    name_line(
+        heap,
+        tray.text_of(key),
+        kind_word(tray.record(value)),
+        text.as_slice(),
+    )
 }
 
 // The text of the value record `i`.
@@ -68,7 +74,11 @@ fn name_line(heap: Global, name: &[u8], kind: &str, text: &[u8]) -> Result<Vec<u
 fn push_name(out: &mut Vec<u8>, text: &[u8]) -> Result<(), AllocError>
     ensures { λ r. ⌜ made r (λ _. vec-items (now (out .exit)) ≡ vec-items (now (out .entry)) ++ shownName (now (text .entry))) ⌝ }
 {
-    if is_name(text) { out.extend_from_slice(text) } else { push_quoted(out, text) }
+    if is_name(text) {
+        out.extend_from_slice(text)
+    } else {
+        push_quoted(out, text)
+    }
 }
 
 fn is_name(text: &[u8]) -> bool

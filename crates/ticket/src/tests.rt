@@ -5,63 +5,59 @@ use crate::json::read;
 use std::alloc::Global;
 use std::test::*;
 
-// `src` is refused for the reason `words`, with `at` bytes before the fault.
-fn refuses(heap: Global, src: &str, at: usize, words: &str) -> Result<(), Fail> {
+// A line for each case: how many bytes stand before the fault, the JSON, and the words of the fault.
+const SHAPES: &str = "\
+11|{\"a\": [1, 2|the JSON ends too soon
+0|[1]|the host data is not an object
+1|{a: 1}|this is not JSON
+6|{\"a\": nul}|this is not JSON
+9|{\"a\": [1,]}|a value is wanted here
+1|{1: 1}|a key in quotes is wanted here
+8|{\"a\": 1,}|a key in quotes is wanted here
+5|{\"a\" 1}|a colon is wanted here
+8|{\"a\": 1 2}|a comma or a closing bracket is wanted here
+8|{\"a\": [1}|a comma or a closing bracket is wanted here
+3|{} {}|something is left over";
+
+const PARTS: &str = "\
+7|{\"a\": 1.5}|a number has a fraction or an exponent
+8|{\"a\": -2E3}|a number has a fraction or an exponent
+6|{\"a\": 012}|a number begins with a 0 too many
+7|{\"a\": -}|a digit is wanted here
+6|{\"a\": +5}|this is not JSON
+6|{\"a\": 9223372036854775808}|a number does not fit 64 signed bits
+8|{\"a\": \"x|a text is not closed
+7|{\"a\": \"\t\"}|a control byte stands in a text
+7|{\"a\": \"\\x\"}|no such escape
+11|{\"a\": \"\\u00g0\"}|a hexadecimal digit is wanted here
+7|{\"a\": \"\\ud800\\u0041\"}|a surrogate stands alone
+7|{\"a\": \"\\udc00\"}|a surrogate stands alone";
+
+fn refuses(heap: Global, case: &str) -> Result<(), Fail> {
+    let (at, rest) = case.split_once('|').ok_or("no place")?;
+    let (src, words) = rest.split_once('|').ok_or("no words")?;
     match read(heap, src.as_bytes()) {
         Err(JsonError::Bad(place, fault)) => {
-            check_eq(place, at).note(src)?;
+            check_eq(place, at.parse::<usize>()?).note(src)?;
             check(fault.words() == words).note(src)
         }
-        Err(JsonError::Memory) => Err(Fail::new("no memory")),
+        Err(JsonError::Memory) => check(false).note("no memory"),
         Ok(_) => check(false).note(src),
     }
 }
 
 #[test]
 fn shapes(rt: LibcRuntime) -> Result<(), Fail> {
-    let cases = [
-        ("", 0, "the JSON ends too soon"),
-        ("{\"a\": [1, 2", 11, "the JSON ends too soon"),
-        ("[1]", 0, "the host data is not an object"),
-        ("\"a\"", 0, "the host data is not an object"),
-        ("{a: 1}", 1, "this is not JSON"),
-        ("{\"a\": nul}", 6, "this is not JSON"),
-        ("{\"a\": }", 6, "a value is wanted here"),
-        ("{\"a\": [1,]}", 9, "a value is wanted here"),
-        ("{1: 1}", 1, "a key in quotes is wanted here"),
-        ("{\"a\": 1,}", 8, "a key in quotes is wanted here"),
-        ("{\"a\" 1}", 5, "a colon is wanted here"),
-        ("{\"a\": 1 2}", 8, "a comma or a closing bracket is wanted here"),
-        ("{\"a\": [1}", 8, "a comma or a closing bracket is wanted here"),
-        ("{\"a\": 1]", 7, "a comma or a closing bracket is wanted here"),
-        ("{} {}", 3, "something is left over"),
-    ];
-    for (src, at, words) in cases {
-        refuses(rt.alloc(), src, at, words)?;
+    for case in SHAPES.lines() {
+        refuses(rt.alloc(), case)?;
     }
     Ok(())
 }
 
 #[test]
 fn numbers_and_texts(rt: LibcRuntime) -> Result<(), Fail> {
-    let cases = [
-        ("{\"a\": 1.5}", 7, "a number has a fraction or an exponent"),
-        ("{\"a\": -2E3}", 8, "a number has a fraction or an exponent"),
-        ("{\"a\": 012}", 6, "a number begins with a 0 too many"),
-        ("{\"a\": -}", 7, "a digit is wanted here"),
-        ("{\"a\": +5}", 6, "this is not JSON"),
-        ("{\"a\": 9223372036854775808}", 6, "a number does not fit 64 signed bits"),
-        ("{\"a\": \"x", 8, "a text is not closed"),
-        ("{\"a\": \"x\\", 8, "a text is not closed"),
-        ("{\"a\": \"\t\"}", 7, "a control byte stands in a text"),
-        ("{\"a\": \"\\x\"}", 7, "no such escape"),
-        ("{\"a\": \"\\u00g0\"}", 11, "a hexadecimal digit is wanted here"),
-        ("{\"a\": \"\\ud800\"}", 7, "a surrogate stands alone"),
-        ("{\"a\": \"\\ud800\\u0041\"}", 7, "a surrogate stands alone"),
-        ("{\"a\": \"\\udc00\"}", 7, "a surrogate stands alone"),
-    ];
-    for (src, at, words) in cases {
-        refuses(rt.alloc(), src, at, words)?;
+    for case in PARTS.lines() {
+        refuses(rt.alloc(), case)?;
     }
     Ok(())
 }

@@ -86,7 +86,10 @@ pub(crate) struct Tree {
 
 impl Tree {
     pub(crate) fn new(heap: Global) -> Tree {
-        Tree { nodes: Vec::new(heap), open: Vec::new(heap) }
+        Tree {
+            nodes: Vec::new(heap),
+            open: Vec::new(heap),
+        }
     }
 
     pub(crate) fn into_nodes(self) -> Vec<Node> {
@@ -101,7 +104,10 @@ impl Tree {
             (Want::Value | Want::ItemOrEnd, Token::OpenArray) => self.begin(at, false),
             (Want::Value | Want::ItemOrEnd, Token::OpenObject) => self.begin(at, true),
             (Want::Value | Want::ItemOrEnd, Token::Leaf(kind)) => self.leaf(at, kind),
-            (Want::KeyOrEnd | Want::Key, Token::Leaf(Kind::Text(place, len))) => self.key(place, len),
+            (Want::KeyOrEnd | Want::Key, Token::Leaf(Kind::Text(place, len))) => self.key(
+                place,
+                len,
+            ),
             (Want::Colon, Token::Colon) => Ok(Want::Value),
             (Want::CommaOrEnd, Token::Comma) => Ok(self.after_comma()),
             (Want::ItemOrEnd | Want::CommaOrEnd, Token::CloseArray) => self.close(at, want, false),
@@ -112,7 +118,11 @@ impl Tree {
 
     fn push(&mut self, kind: Kind) -> Result<usize, JsonError> {
         let node = self.nodes.len();
-        self.nodes.push(Node { kind, next: self.nodes.len() + 1 })?;
+        self.nodes
+            .push(Node {
+                kind,
+                next: self.nodes.len() + 1,
+            })?;
         Ok(node)
     }
 
@@ -121,8 +131,17 @@ impl Tree {
             return Err(JsonError::Bad(at, Fault::NotObject));
         }
         let node = self.push(Kind::Nil)?;
-        self.open.push(Open { node, is_object, count: 0 })?;
-        Ok(if is_object { Want::KeyOrEnd } else { Want::ItemOrEnd })
+        self.open
+            .push(Open {
+                node,
+                is_object,
+                count: 0,
+            })?;
+        Ok(if is_object {
+            Want::KeyOrEnd
+        } else {
+            Want::ItemOrEnd
+        })
     }
 
     fn leaf(&mut self, at: usize, kind: Kind) -> Result<Want, JsonError> {
@@ -169,7 +188,11 @@ impl Tree {
         if holder.is_object != is_object {
             return Err(JsonError::Bad(at, want.fault()));
         }
-        let kind = if is_object { Kind::Object(holder.count) } else { Kind::Array(holder.count) };
+        let kind = if is_object {
+            Kind::Object(holder.count)
+        } else {
+            Kind::Array(holder.count)
+        };
         let next = self.nodes.len();
         if let Some(node) = self.nodes.get_mut(holder.node) {
             *node = Node { kind, next };
