@@ -1,0 +1,4 @@
+pub mod Counted
+pub mod Windows
+pub mod Spans
+pub mod First

@@ -1,0 +1,9 @@
+//! Rows of items, counted numbers, windows over any row, and the first match in a row.
+
+pub mod numbers;
+mod place;
+pub mod row;
+pub mod search;
+#[cfg(test)]
+mod tests;
+pub mod window;

@@ -1,0 +1,3 @@
+pub mod LeafTexts
+pub mod Sums
+pub mod Fills

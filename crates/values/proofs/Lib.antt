@@ -1,0 +1,4 @@
+pub mod Unfolds
+pub mod Rests
+pub mod Stepping
+pub mod Listing

@@ -1,0 +1,11 @@
+use mathlib.Core.Path.{refl}
+use Rattle.values.specs.RowsOf.{pairAt, pairValue}
+use Rattle.values.proofs.Listing.{object-row, no-pairs}
+use Rattle.values.proofs.rows.pairs_of.Needs as need
+
+pub returns-in-Object : need.returns-in-Object
+returns-in-Object c =
+    object-row _ _ (c .args .tray .now .behind) _ pairAt (pairValue (c .args .tray .now)) (λ i. refl) (c .args .tray .now .keys) _ _ (c .in-Object .ensures tt)
+
+pub returns-in-rest : need.returns-in-rest
+returns-in-rest c = no-pairs _ _ (c .args .tray .now .behind) _ _ (c .record .ensures) (c .in-rest .not-Object)
