@@ -5,6 +5,11 @@ use Prim.Native.Nat.{ℕ}
 use lib.Chars.{codes}
 use Rattle.tray.specs.declared.records.Record.{Record}
 use Rattle.tray.specs.declared.records.Record.the-variants.{Nil, Boolean, Whole, Text, Array, Object}
+use Rattle.std.specs.Of.Vec.{vec-items}
+use Rattle.tray.specs.Sound.{at}
+use Rattle.tray.specs.declared.trays.Tray.{Tray}
+use Rattle.values.specs.Meaning.{valueOf, textAt}
+use Rattle.values.specs.Value.{written}
 use Rattle.ticket.specs.Names.{isName}
 use Rattle.ticket.specs.Quote.{quoted}
 
@@ -22,3 +27,7 @@ shownName text = cond (isName text) text (quoted text)
 
 abbrev pub nameLine : List ℕ → List ℕ → List ℕ → List ℕ
 nameLine name kind text = codes "show " ++ (shownName name ++ (codes " " ++ (kind ++ (codes " text=" ++ (quoted text ++ (10 ∷ []))))))
+
+-- the line of an entry of a tray, whose key and value are these records
+abbrev pub entryLine : Tray → ℕ → ℕ → List ℕ
+entryLine t key value = nameLine (textAt t key) (kindWord (at (vec-items (t .records)) value)) (written (valueOf t value))

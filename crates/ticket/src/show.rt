@@ -5,19 +5,18 @@ ghost use mathlib.Core.Path.{_≡_};
 ghost use Rattle.std.specs.Of.Vec.{vec-items};
 ghost use Rattle.std.specs.Vec.{made};
 ghost use Rattle.ticket.specs.Names.{begins, goesOn, allGoOn, isName};
-ghost use Rattle.ticket.specs.Show.{kindWord, shownName, nameLine};
+ghost use Rattle.ticket.specs.Show.{kindWord, shownName, nameLine, entryLine};
+ghost use Rattle.values.specs.Meaning.{valueOf};
+ghost use Rattle.values.specs.Value.{written};
 use crate::quote::push_quoted;
 use std::alloc::AllocError;
 use std::alloc::Global;
 use std::io;
 use std::io::Write;
+use texts::measure::text_len;
+use texts::write::write_text;
 use tray::records::Record;
 use tray::trays::Tray;
-use values::text_len;
-use values::write_text;
-
-// No value has a longer text: no text is held twice, and a tray has at most 2,048 records of at most 256 bytes.
-const LONGEST: usize = 524288;
 
 // Prints a line for each host name.
 pub(crate) fn show(rt: &LibcRuntime, tray: &Tray) -> io::Result<()> {
@@ -30,15 +29,16 @@ pub(crate) fn show(rt: &LibcRuntime, tray: &Tray) -> io::Result<()> {
     }
     for i in 0..count as usize {
         let key = first as usize + 2 * i;
-        let line = entry_line(rt.alloc(), tray, key)?;
+        let line = entry_line(rt.alloc(), tray, key, key + 1)?;
         rt.stdout().write_all(line.as_slice())?;
     }
     Ok(())
 }
 
-// The line of the entry whose key is the record `key`.
-fn entry_line(heap: Global, tray: &Tray, key: usize) -> Result<Vec<u8>, AllocError> {
-    let value = key.saturating_add(1);
+// The line of an entry, whose key and value are these records.
+fn entry_line(heap: Global, tray: &Tray, key: usize, value: usize) -> Result<Vec<u8>, AllocError>
+    ensures { λ r. ⌜ made r (λ v. vec-items v ≡ entryLine (now (tray .entry)) key value) ⌝ }
+{
     let text = value_text(heap, tray, value)?;
     name_line(
         heap,
@@ -49,11 +49,18 @@ fn entry_line(heap: Global, tray: &Tray, key: usize) -> Result<Vec<u8>, AllocErr
 }
 
 // The text of the value record `i`.
-fn value_text(heap: Global, tray: &Tray, i: usize) -> Result<Vec<u8>, AllocError> {
-    let len = text_len(tray, i, LONGEST).unwrap_or(0);
-    let mut text = vec![in heap; 0; len]?;
-    let _ = write_text(tray, i, text.as_mut_slice());
-    Ok(text)
+fn value_text(heap: Global, tray: &Tray, i: usize) -> Result<Vec<u8>, AllocError>
+    ensures { λ r. ⌜ made r (λ v. vec-items v ≡ written (valueOf (now (tray .entry)) i)) ⌝ }
+{
+    let Some(len) = text_len(tray, i, usize::MAX) else {
+        return Err(AllocError);
+    };
+    let mut text = Vec::new(heap);
+    text.resize(len, 0)?;
+    match write_text(tray, i, text.as_mut_slice()) {
+        Some(_) => Ok(text),
+        None => Err(AllocError),
+    }
 }
 
 fn name_line(heap: Global, name: &[u8], kind: &str, text: &[u8]) -> Result<Vec<u8>, AllocError>
