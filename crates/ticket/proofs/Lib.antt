@@ -1,0 +1,4 @@
+pub mod Goes
+pub mod Joins
+pub mod Spells
+pub mod Wholes

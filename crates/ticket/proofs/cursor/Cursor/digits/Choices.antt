@@ -1,0 +1,10 @@
+use mathlib.Core.Path.{_≡_}
+use Prim.Native.Nat.{_+_}
+use lib.ListN.{length}
+use Rattle.ticket.proofs.cursor.Cursor.digits.Given as given
+
+abbrev pub Inv-loop-self : given.InvT-loop-self
+Inv-loop-self l = length (l .self .rest .now) + l .n ≡ length (l .entry .self .rest .now)
+
+abbrev pub μ-loop-self : given.MeasureT-loop-self
+μ-loop-self l = length (l .self .rest .now)

@@ -1,0 +1,4 @@
+pub mod Names
+pub mod Quote
+pub mod Show
+pub mod Spelling
