@@ -1,0 +1,5 @@
+pub mod Causes
+pub mod Meaning
+pub mod Calls
+pub mod Joined
+pub mod Laws

@@ -1,0 +1,22 @@
+ghost use Rattle.banks.specs.Joined.{nothing};
+use crate::bank::Bank;
+use crate::causes::Cause;
+use crate::operands::Answer;
+use crate::operands::Argument;
+use crate::operands::Operand;
+
+/// The bank that knows no name.
+#[derive(Clone, Copy)]
+pub struct NoBank;
+
+pub impl Bank for NoBank as NoBankBank {
+    ghost meaning = { λ _. nothing };
+
+    fn knows(&mut self, _name: &[u8]) -> bool {
+        false
+    }
+
+    fn apply(&mut self, _name: &[u8], _input: Operand, _argument: Argument, _answer: &mut [u8; 256]) -> Result<Answer, Cause> {
+        Err(Cause::UnknownName)
+    }
+}
