@@ -3,7 +3,8 @@ use mathlib.Core.Path.{_≡_}
 use mathlib.Core.List.{List}
 use Prim.Native.Nat.{ℕ}
 use Rattle.std.specs.declared.option.Option.{Option}
-use Rattle.banks.specs.Meaning.{Datum, Meaning, Lawful}
+use Rattle.banks.specs.Meaning.{Meaning, Lawful}
+use Rattle.banks.specs.Operands.{Datum}
 use Rattle.banks.specs.Joined.{joined, nothing}
 
 -- two meanings agree at every name, input and argument

@@ -1,5 +1,8 @@
 pub mod Causes
+pub mod Operands
 pub mod Meaning
-pub mod Calls
+pub mod Answers
 pub mod Joined
 pub mod Laws
+pub mod Sums
+pub mod Operations

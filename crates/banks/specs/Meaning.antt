@@ -10,13 +10,7 @@ use Rattle.std.specs.declared.result.Result.{Result}
 use Rattle.std.specs.declared.result.Result.the-variants.{Ok, Err}
 use Rattle.banks.specs.declared.causes.Cause.{Cause}
 use Rattle.banks.specs.declared.causes.Cause.the-variants.{UnknownName}
-
--- what an operand stands for
-pub data Datum : Type 0 where
-  nil : Datum
-  boolean : Bool → Datum
-  whole : ℤ → Datum
-  text : List ℕ → Datum
+use Rattle.banks.specs.Operands.{Datum}
 
 -- a value that a function gives
 pub data Given : Type 0 where

@@ -1,17 +1,23 @@
-//! What an answer buffer holds at the end of a call.
 ghost use mathlib.Core.Path.{_≡_};
 ghost use mathlib.Core.List.{_++_};
 ghost use Prim.Native.Nat.{_-_, _≤_};
 ghost use lib.ListN.{length, replicate};
 
-// Leaves zeros.
+/// A value that a filter gave: a number, or a text in the answer buffer, by its length.
+#[derive(Clone, Copy, PartialEq, Eq, Debug)]
+pub enum Answer {
+    Whole(i64),
+    Text(usize),
+}
+
+// Leaves zeros in the answer buffer.
 pub(crate) fn clear(answer: &mut [u8; 256])
     ensures { λ _. ⌜ now (answer .exit) ≡ replicate 256 0 ⌝ }
 {
     *answer = [0; 256];
 }
 
-// Leaves the text, and then zeros.
+// Leaves the text in the answer buffer, and then zeros.
 pub(crate) fn put(answer: &mut [u8; 256], text: &[u8])
     requires { ⌜ length (now text) ≤ 256 ⌝ }
     ensures { λ _. ⌜ now (answer .exit) ≡ now (text .entry) ++ replicate (256 - length (now (text .entry))) 0 ⌝ }

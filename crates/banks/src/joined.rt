@@ -1,10 +1,9 @@
 ghost use mathlib.Core.Path.{_≡_};
 ghost use Rattle.banks.specs.Joined.{joined};
 ghost use Rattle.banks.specs.Laws.{Joining-is-associative, Nothing-is-a-unit};
+use crate::answers::Answer;
 use crate::bank::Bank;
 use crate::causes::Cause;
-use crate::operands::Answer;
-use crate::operands::Argument;
 use crate::operands::Operand;
 
 /// Two banks side by side: the left one has the names that it knows, the right one the rest.
@@ -31,7 +30,13 @@ pub impl<L: Bank, R: Bank> Bank for Joined<L, R> as JoinedBank {
         self.left.knows(name) || self.right.knows(name)
     }
 
-    fn apply(&mut self, name: &[u8], input: Operand, argument: Argument, answer: &mut [u8; 256]) -> Result<Answer, Cause> {
+    fn apply(
+        &mut self,
+        name: &[u8],
+        input: Operand,
+        argument: Option<Operand>,
+        answer: &mut [u8; 256],
+    ) -> Result<Answer, Cause> {
         if self.left.knows(name) {
             self.left.apply(name, input, argument, answer)
         } else {

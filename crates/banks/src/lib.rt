@@ -1,7 +1,8 @@
 //! Filter banks: what a bank is, the bank of sums, two banks side by side, and the bank that knows no name.
-mod answers;
+pub mod answers;
 pub mod bank;
 pub mod causes;
 pub mod joined;
 pub mod no_bank;
 pub mod operands;
+pub mod sums;

@@ -1,8 +1,7 @@
 ghost use Rattle.banks.specs.Joined.{nothing};
+use crate::answers::Answer;
 use crate::bank::Bank;
 use crate::causes::Cause;
-use crate::operands::Answer;
-use crate::operands::Argument;
 use crate::operands::Operand;
 
 /// The bank that knows no name.
@@ -16,7 +15,13 @@ pub impl Bank for NoBank as NoBankBank {
         false
     }
 
-    fn apply(&mut self, _name: &[u8], _input: Operand, _argument: Argument, _answer: &mut [u8; 256]) -> Result<Answer, Cause> {
+    fn apply(
+        &mut self,
+        _name: &[u8],
+        _input: Operand,
+        _argument: Option<Operand>,
+        _answer: &mut [u8; 256],
+    ) -> Result<Answer, Cause> {
         Err(Cause::UnknownName)
     }
 }

@@ -1,34 +1,45 @@
-ghost use Prim.Native.Nat.{_≤_};
+ghost use mathlib.Core.Path.{_≡_};
+ghost use Prim.Native.Nat.{_<_, _≤_};
 ghost use lib.ListN.{length};
-ghost use denote.Ref.{now};
+ghost use Rattle.std.specs.Options.{Cases};
+ghost use Rattle.banks.specs.Operands.{textOf};
 
-/// What kind of operand it is. Only a text has bytes.
+/// A text of at most 256 bytes.
 #[derive(Clone, Copy)]
-pub enum Kind {
+pub struct Short<'a> {
+    bytes: &'a [u8],
+}
+
+/// What a filter is applied to, or its argument.
+#[derive(Clone, Copy)]
+pub enum Operand<'a> {
     Nil,
     Boolean(bool),
     Whole(i64),
-    Text,
+    Text(Short<'a>),
 }
 
-/// What a filter is applied to, or its argument: nil, a boolean, a whole number, or a text of at most 256 bytes.
-#[derive(Clone, Copy)]
-pub struct Operand<'a> {
-    pub(crate) kind: Kind,
-    pub(crate) bytes: &'a [u8],
-    ghost short: { length (now bytes) ≤ 256 },
-}
+impl<'a> Short<'a> {
+    /// The text, unless it has more than 256 bytes.
+    pub fn new(bytes: &'a [u8]) -> Option<Short<'a>>
+        ensures { λ r. ⌜ Cases r (256 < length (now (bytes .entry))) (λ s. textOf s ≡ now (bytes .entry)) ⌝ }
+    {
+        if bytes.len() <= 256 {
+            Some(Short { bytes })
+        } else {
+            None
+        }
+    }
 
-/// The argument of a filter, which may be missing.
-#[derive(Clone, Copy)]
-pub struct Argument<'a> {
-    pub(crate) given: bool,
-    pub(crate) operand: Operand<'a>,
-}
-
-/// A value that a filter gave: a number, or a text in the answer buffer, by its length.
-#[derive(Clone, Copy, PartialEq, Eq, Debug)]
-pub enum Answer {
-    Whole(i64),
-    Text(usize),
+    /// The bytes of the text.
+    pub fn bytes(self) -> &'a [u8]
+        ensures value { λ r. ⌜ now r ≡ textOf (self .entry) ⌝ }
+        ensures short { λ r. ⌜ length (now r) ≤ 256 ⌝ }
+    {
+        if self.bytes.len() <= 256 {
+            self.bytes
+        } else {
+            &self.bytes[0..256]
+        }
+    }
 }
