@@ -1,1 +1,1 @@
-mod Lawful
+mod Fetching

@@ -22,7 +22,13 @@ pub record Meaning : Type 0 where
   pub known : List ℕ → Bool
   pub gives : List ℕ → Datum → Option Datum → Result Given Cause
 
--- a name that is not known has the cause of that, and a text is never longer than 256 bytes
+-- a text that is given has at most 256 bytes
+abbrev pub FitsBuffer : Result Given Cause → Type 0
+FitsBuffer (Ok (aNumber z)) = Unit {0}
+FitsBuffer (Ok (aText t)) = length t ≤ 256
+FitsBuffer (Err c) = Unit {0}
+
+-- a name that is not known has the cause of that, and every text is short enough
 pub record Lawful (m : Meaning) : Type 0 where
   pub unknown : (name : List ℕ) (input : Datum) (argument : Option Datum) → m .known name ≡ false → m .gives name input argument ≡ Err UnknownName
-  pub short : (name : List ℕ) (input : Datum) (argument : Option Datum) (t : List ℕ) → m .gives name input argument ≡ Ok (aText t) → length t ≤ 256
+  pub short : (name : List ℕ) (input : Datum) (argument : Option Datum) → FitsBuffer (m .gives name input argument)

@@ -11,7 +11,7 @@ use crate::operands::Operand;
 pub trait Bank {
     ghost meaning: { Self → Meaning };
 
-    law lawful: { (b : Self) → Lawful (meaning b) };
+    ghost lawful: { (b : Self) → Lawful (meaning b) };
 
     /// Whether the bank knows the name.
     fn knows(&mut self, name: &[u8]) -> bool

@@ -1,6 +1,7 @@
 ghost use mathlib.Core.Path.{_≡_};
 ghost use Rattle.banks.specs.Joined.{joined};
 ghost use Rattle.banks.specs.Laws.{Joining-is-associative, Nothing-is-a-unit};
+ghost use Rattle.banks.specs.Lawful.{joined-lawful};
 use crate::answers::Answer;
 use crate::bank::Bank;
 use crate::causes::Cause;
@@ -25,6 +26,8 @@ pub fn join<L, R>(left: L, right: R) -> Joined<L, R>
 
 pub impl<L: Bank, R: Bank> Bank for Joined<L, R> as JoinedBank {
     ghost meaning = { λ b. joined (L·Bank .meaning (b .left)) (R·Bank .meaning (b .right)) };
+
+    ghost lawful = { λ b. joined-lawful (L·Bank .meaning (b .left)) (R·Bank .meaning (b .right)) (L·Bank .lawful (b .left)) (R·Bank .lawful (b .right)) };
 
     fn knows(&mut self, name: &[u8]) -> bool {
         self.left.knows(name) || self.right.knows(name)

@@ -1,4 +1,5 @@
 ghost use Rattle.banks.specs.Joined.{nothing};
+ghost use Rattle.banks.specs.Lawful.{nothing-lawful};
 use crate::answers::Answer;
 use crate::bank::Bank;
 use crate::causes::Cause;
@@ -10,6 +11,8 @@ pub struct NoBank;
 
 pub impl Bank for NoBank as NoBankBank {
     ghost meaning = { λ _. nothing };
+
+    ghost lawful = { λ _. nothing-lawful };
 
     fn knows(&mut self, _name: &[u8]) -> bool {
         false

@@ -5,6 +5,7 @@ ghost use Rattle.numerals.specs.Decimal.{ifFits};
 ghost use Rattle.banks.specs.Operands.{datum};
 ghost use Rattle.banks.specs.Operations.{rule, numbered};
 ghost use Rattle.banks.specs.Sums.{operation as operationOf, wholeIn, wholeInArgument, calculated, sums};
+ghost use Rattle.banks.specs.Lawful.{sums-lawful};
 use crate::answers::Answer;
 use crate::answers::clear;
 use crate::bank::Bank;
@@ -88,6 +89,8 @@ fn calculate(operation: Operation, input: Operand, argument: Option<Operand>) ->
 
 pub impl Bank for Sums as SumsBank {
     ghost meaning = { λ _. sums };
+
+    ghost lawful = { λ _. sums-lawful };
 
     fn knows(&mut self, name: &[u8]) -> bool {
         named(name).is_some()
