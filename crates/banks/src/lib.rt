@@ -7,3 +7,5 @@ pub mod no_bank;
 pub mod operands;
 pub mod phrases;
 pub mod sums;
+#[cfg(test)]
+mod tests;
