@@ -1,0 +1,1 @@
+// What a ticket means, in specs/.
