@@ -1,1 +1,15 @@
 pub mod Things
+pub mod Hosts
+pub mod Rows
+pub mod Frames
+pub mod Acts
+pub mod Looking
+pub mod Tests
+pub mod Chains
+pub mod Leaves
+pub mod Openings
+pub mod Blocks
+pub mod Rendering
+pub mod Sharing
+pub mod Calls
+pub mod Order
