@@ -45,6 +45,10 @@ needs-columns (x ∷ xs) (pos ℕ.zero) p e = faults 24 p e
 needs-columns (x ∷ xs) (pos (ℕ.suc c)) p e = pure (table (x ∷ xs) (pos (ℕ.suc c)))
 needs-columns (x ∷ xs) (negsuc c) p e = pure (table (x ∷ xs) (negsuc c))
 
+-- without `cols`, all items stand in one row
+abbrev pub laid-out : List Held → Option ℤ → ℕ → Frames → Act Opening
+laid-out xs k p e = needs-columns xs (valueOr k (pos (length xs))) p e
+
 module _ (w : World) where
   abbrev pub number : Expr → ℕ → Frames → Act ℤ
   number x p e = eval w x p e andThen λ v. whole-number p e (number-of v)
@@ -71,6 +75,6 @@ module _ (w : World) where
       number-if cols p e andThen λ k.
       number-if limit p e andThen λ l.
       number-if offset p e andThen λ o.
-      (let ys = windowed (valueOr o (pos 0)) l false xs in needs-columns ys (valueOr k (pos (length ys))) p e)
+      laid-out (windowed (valueOr o (pos 0)) l false xs) k p e
   opened (capture-block n) p e = pure bare
   opened ifchanged-block p e = pure bare

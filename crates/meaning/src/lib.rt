@@ -1,1 +1,9 @@
-// What a ticket means, in specs/.
+// What a ticket means. The definitions are in specs/; the functions here stand for theorems about them.
+ghost use Rattle.meaning.specs.Order.{Order-free};
+
+// Calls may be made in any order that keeps the order of those that clash.
+pub fn order_stands() -> u8
+    ensures order { λ _. ⌜ Order-free ⌝ }
+{
+    0
+}
