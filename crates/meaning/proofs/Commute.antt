@@ -44,7 +44,7 @@ module _ (sheet : Sheet) (bank : Meaning) where
   unfolding perform
   keeps c d =
       kept-after (λ t. In t (call-writes sheet c)) d (act sheet bank (judged sheet c) d [])
-        (act-confined {X = λ _. Unit {0}} (judged sheet c) (λ _ _. tt) (λ _ i. i) .frame d [])
+      (act-confined {X = λ _. Unit {0}} (judged sheet c) (λ _ _. tt) (λ _ i. i) .frame d [])
 
   -- (ii) a call depends only on what it reads, and drawers that agree on more than that agree there afterwards
   pub agrees : (X : Thing → Type 0) (c : Call) (d e : Drawers) → Covers X (call-reads sheet c) → Agree X d e →
@@ -58,8 +58,8 @@ module _ (sheet : Sheet) (bank : Meaning) where
       Agree (λ t. ¬ (In t (call-writes sheet a))) (perform sheet bank b (perform sheet bank a d .1) .1) (perform sheet bank b d .1)
   quiet a b n d =
       agrees (λ t. ¬ (In t (call-writes sheet a))) b (perform sheet bank a d .1) d
-        (λ t i j. n (t, j, in-left t (call-reads sheet b) (call-writes sheet b) i))
-        (keeps a d)
+      (λ t i j. n (t, j, in-left t (call-reads sheet b) (call-writes sheet b) i))
+      (keeps a d)
 
   -- (iii)
   pub record Commutes (a b : Call) (d : Drawers) : Type 0 where
@@ -72,20 +72,22 @@ module _ (sheet : Sheet) (bank : Meaning) where
       record {
         first = ba .0;
         second = ab .0;
-        drawers = fun-ext (λ t. at-thing t (in-dec t (call-writes sheet a)))
+        drawers = fun-ext (λ t. at-thing t (in-dec t (call-writes sheet a)));
       }
     where
       ab : (perform sheet bank b (perform sheet bank a d .1) .0 ≡ perform sheet bank b d .0) ×
           Agree (λ t. ¬ (In t (call-writes sheet a))) (perform sheet bank b (perform sheet bank a d .1) .1) (perform sheet bank b d .1)
       ab = quiet a b (λ m. n (inl m)) d
+
       ba : (perform sheet bank a (perform sheet bank b d .1) .0 ≡ perform sheet bank a d .0) ×
           Agree (λ t. ¬ (In t (call-writes sheet b))) (perform sheet bank a (perform sheet bank b d .1) .1) (perform sheet bank a d .1)
       ba = quiet b a (λ m. n (inr m)) d
+
       at-thing : (t : Thing) → Dec (In t (call-writes sheet a)) →
           perform sheet bank a (perform sheet bank b d .1) .1 t ≡ perform sheet bank b (perform sheet bank a d .1) .1 t
       at-thing t (yes i) =
           let free : ¬ (In t (call-writes sheet b)) =
-                λ j. n (inl (t, i, in-right t (call-reads sheet b) (call-writes sheet b) j)) in
+          λ j. n (inl (t, i, in-right t (call-reads sheet b) (call-writes sheet b) j)) in
           ba .1 t free ∙ sym (keeps b (perform sheet bank a d .1) t free)
       at-thing t (no f) = keeps a (perform sheet bank b d .1) t f ∙ sym (ab .1 t f)
 
@@ -102,8 +104,8 @@ meet-dec (x ∷ xs) ys = either (in-dec x ys) (meet-dec xs ys)
 pub clash-dec : (sheet : Sheet) (a b : Call) → Dec (Clash sheet a b)
 clash-dec sheet a b =
     either
-      (meet-dec (call-writes sheet a) (call-reads sheet b ++ call-writes sheet b))
-      (meet-dec (call-writes sheet b) (call-reads sheet a ++ call-writes sheet a))
+    (meet-dec (call-writes sheet a) (call-reads sheet b ++ call-writes sheet b))
+    (meet-dec (call-writes sheet b) (call-reads sheet a ++ call-writes sheet a))
   where
     either : {P Q : Type 0} → Dec P → Dec Q → Dec (P ⊎ Q)
     either (yes p) q = yes (inl p)

@@ -53,7 +53,7 @@ module _ {X W : Thing → Type 0} {A B : Type 0} where
   andThen-confined {m} {k} hm hk =
       record {
         same = λ d e o h. alike-on k hk (hm .same d e o h);
-        frame = λ d o. kept-on d k hk (m d o) (hm .frame d o)
+        frame = λ d o. kept-on d k hk (m d o) (hm .frame d o);
       }
 
 module _ {X W : Thing → Type 0} {A : Type 0} where
@@ -101,7 +101,7 @@ module _ {X W : Thing → Type 0} where
   look-confined t x =
       record {
         same = λ d e o h. subst (λ (c : Content). Alike X (step d o (gives (d t))) (step e o (gives c))) (h t x) (alike h);
-        frame = λ d o u n. refl
+        frame = λ d o u n. refl;
       }
 
   pub alter-confined : (t : Thing) (f : Content → Content) → W t → Confined X W (alter t f)
@@ -109,5 +109,5 @@ module _ {X W : Thing → Type 0} where
   alter-confined t f w =
       record {
         same = λ d e o h. alike (λ u x. ap (λ c. cond (same-thing t u) (f c) c) (h u x));
-        frame = λ d o u n. left-out (same-thing t u) _ _ (λ q. n (subst (λ (k : Thing). W k) (same-is t u q) w))
+        frame = λ d o u n. left-out (same-thing t u) _ _ (λ q. n (subst (λ (k : Thing). W k) (same-is t u q) w));
       }

@@ -35,9 +35,10 @@ module _ {A : Type 0} where
   pub pairs : (R : A → A → Type 0) (xs : List A) →
       ((k l : ℕ) (x y : A) → k < l → nth xs k ≡ Some y → nth xs l ≡ Some x → R x y) → Pairs R xs
   pairs R [] h = tt
-  pairs R (y ∷ v) h =
-      ( (λ x i. let j = in-at v x i in h zero (suc (j .0)) x y (omega arith) refl (j .1))
-      , pairs R v (λ k l x z lt e f. h (suc k) (suc l) x z (omega arith) e f) )
+  pairs R (y ∷ v) h = (
+    (λ x i. let j = in-at v x i in h zero (suc (j .0)) x y (omega arith) refl (j .1)),
+    pairs R v (λ k l x z lt e f. h (suc k) (suc l) x z (omega arith) e f),
+  )
 
   -- each element with its index, from `m` on
   abbrev pub numbered : ℕ → List A → List (ℕ × A)

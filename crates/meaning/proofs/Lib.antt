@@ -5,3 +5,4 @@ pub mod Rendering
 pub mod Commute
 pub mod Indexes
 pub mod Reorder
+pub mod Worked

@@ -90,8 +90,8 @@ module _ {X W : Thing → Type 0} where
   show-text-confined : (p : ℕ) (e : Frames) (f : Flow) (t : List ℕ) → X changed → W changed → Confined X W (show-text p e f t)
   show-text-confined p e f t h c =
       cond-confined _
-        (andThen-confined (look-confined changed h) (λ k. andThen-confined (alter-confined changed _ c) (λ _. cond-confined _ (still-confined _) (andThen-confined (append-confined t) (λ _. still-confined _)))))
-        (still-confined _)
+      (andThen-confined (look-confined changed h) (λ k. andThen-confined (alter-confined changed _ c) (λ _. cond-confined _ (still-confined _) (andThen-confined (append-confined t) (λ _. still-confined _)))))
+      (still-confined _)
 
   around-confined : (m : Manner) (p : ℕ) (e : Frames) {k : Act Flow} → Allows X W m → Confined X W k → Confined X W (around m p e k)
   unfolding around _andThen_ aside
@@ -119,8 +119,8 @@ module _ {X W : Thing → Type 0} (w : World) where
   count-on-confined : (n : ℕ) (y z : ℤ) (p : ℕ) (e : Frames) → W (name n) → Confined X W (count-on w n y z p e)
   count-on-confined n y z p e h =
       cond-confined _
-        (andThen-confined (emit-confined _ p e _) (λ _. andThen-confined (alter-confined (name n) _ h) (λ _. still-confined _)))
-        (still-confined _)
+      (andThen-confined (emit-confined _ p e _) (λ _. andThen-confined (alter-confined (name n) _ h) (λ _. still-confined _)))
+      (still-confined _)
 
   nth-covered : (xs : List Expr) (k : ℕ) (p : ℕ) (e : Frames) → Covers X (exprs-read xs) → Confined X W (cycle-value w (nth xs k) p e)
   nth-covered [] k p e h = still-confined _
@@ -131,7 +131,7 @@ module _ {X W : Thing → Type 0} (w : World) where
   cycled-confined n [] p e x c h = still-confined _
   cycled-confined n (y ∷ ys) p e x c h =
       andThen-confined (look-confined (cycle-name n) x)
-        (λ k. andThen-confined (alter-confined (cycle-name n) _ c) (λ _. nth-covered (y ∷ ys) (k .position) p e h))
+      (λ k. andThen-confined (alter-confined (cycle-name n) _ c) (λ _. nth-covered (y ∷ ys) (k .position) p e h))
 
   leaf-confined : (l : Leaf) (p : ℕ) (e : Frames) → Covers X (leaf-reads l) → Covers W (leaf-writes l) → Confined X W (leaf-act w l p e)
   unfolding leaf-act
@@ -156,7 +156,7 @@ module _ {X W : Thing → Type 0} (w : World) where
   gone-over-confined (row-of x) p e h = andThen-confined (eval-confined w x p e h) (λ v. the-row-confined p e _)
   gone-over-confined (range x y) p e h =
       andThen-confined (number-confined x p e (left _ (expr-reads y) h))
-        (λ a. andThen-confined (number-confined y p e (right (expr-reads x) _ h)) (λ b. counted-row-confined a b p e))
+      (λ a. andThen-confined (number-confined y p e (right (expr-reads x) _ h)) (λ b. counted-row-confined a b p e))
 
   opened-confined : (b : Block) (p : ℕ) (e : Frames) → Covers X (block-reads b) → Confined X W (opened w b p e)
   unfolding opened
@@ -165,15 +165,15 @@ module _ {X W : Thing → Type 0} (w : World) where
   opened-confined (for-block v r limit offset reversed) p e h =
       let h′ = right (row-reads r) (option-reads limit ++ option-reads offset) h in
       andThen-confined (gone-over-confined r p e (left _ (option-reads limit ++ option-reads offset) h))
-        (λ xs. andThen-confined (number-if-confined limit p e (left _ (option-reads offset) h′))
-          (λ l. andThen-confined (number-if-confined offset p e (right (option-reads limit) _ h′)) (λ o. still-confined _)))
+      (λ xs. andThen-confined (number-if-confined limit p e (left _ (option-reads offset) h′))
+      (λ l. andThen-confined (number-if-confined offset p e (right (option-reads limit) _ h′)) (λ o. still-confined _)))
   opened-confined (tablerow-block v r cols limit offset) p e h =
       let h′ = right (row-reads r) (option-reads cols ++ (option-reads limit ++ option-reads offset)) h in
       let h″ = right (option-reads cols) (option-reads limit ++ option-reads offset) h′ in
       andThen-confined (gone-over-confined r p e (left _ (option-reads cols ++ (option-reads limit ++ option-reads offset)) h))
-        (λ xs. andThen-confined (number-if-confined cols p e (left _ (option-reads limit ++ option-reads offset) h′))
-          (λ k. andThen-confined (number-if-confined limit p e (left _ (option-reads offset) h″))
-            (λ l. andThen-confined (number-if-confined offset p e (right (option-reads limit) _ h″)) (λ o. laid-out-confined (windowed (valueOr o (pos 0)) l false xs) k p e))))
+      (λ xs. andThen-confined (number-if-confined cols p e (left _ (option-reads limit ++ option-reads offset) h′))
+      (λ k. andThen-confined (number-if-confined limit p e (left _ (option-reads offset) h″))
+      (λ l. andThen-confined (number-if-confined offset p e (right (option-reads limit) _ h″)) (λ o. laid-out-confined (windowed (valueOr o (pos 0)) l false xs) k p e))))
   opened-confined (capture-block n) p e h = still-confined _
   opened-confined ifchanged-block p e h = still-confined _
 
@@ -181,7 +181,7 @@ module _ {X W : Thing → Type 0} (w : World) where
   one-equal-confined [] t p e h = still-confined _
   one-equal-confined (x ∷ xs) t p e h =
       andThen-confined (eval-confined w x p e (left _ (exprs-read xs) h))
-        (λ v. cond-confined _ (still-confined _) (one-equal-confined xs t p e (right (expr-reads x) _ h)))
+      (λ v. cond-confined _ (still-confined _) (one-equal-confined xs t p e (right (expr-reads x) _ h)))
 
   passes-confined : (g : Guard) (o : Opening) (p : ℕ) (e : Frames) → Covers X (guard-reads g) → Confined X W (passes w g o p e)
   unfolding passes
@@ -221,22 +221,22 @@ module _ {X W : Thing → Type 0} (w : World) where
     render-confined done e h c = still-confined _
     render-confined (leaf p l rest) e h c =
         andThen-confined (leaf-confined l p e (left _ (reads rest) h) (left _ (writes rest) c))
-          (λ f. after-element-confined f (render-confined rest e (right (leaf-reads l) _ h) (right (leaf-writes l) _ c)))
+        (λ f. after-element-confined f (render-confined rest e (right (leaf-reads l) _ h) (right (leaf-writes l) _ c)))
     render-confined (block p b arms rest) e h c =
         let c′ = right (block-writes b) (arms-write arms ++ writes rest) c in
         let h′ = right (block-reads b) (arms-read arms ++ reads rest) h in
         let r = left (block-reads b) (arms-read arms ++ reads rest) h in
         let k = left (block-writes b) (arms-write arms ++ writes rest) c in
         andThen-confined (opened-confined b p e r)
-          (λ o. andThen-confined (taken-confined b p o arms e (left _ (reads rest) h′) r k (left _ (writes rest) c′))
-            (λ f. after-element-confined f (render-confined rest e (right (arms-read arms) _ h′) (right (arms-write arms) _ c′))))
+        (λ o. andThen-confined (taken-confined b p o arms e (left _ (reads rest) h′) r k (left _ (writes rest) c′))
+        (λ f. after-element-confined f (render-confined rest e (right (arms-read arms) _ h′) (right (arms-write arms) _ c′))))
 
     taken-confined : (b : Block) (p : ℕ) (o : Opening) (arms : Arms) (e : Frames) → Covers X (arms-read arms) → Covers X (block-reads b) → Covers W (block-writes b) → Covers W (arms-write arms) → Confined X W (taken w b p o arms e)
     taken-confined b p o no-arms e h r k c = still-confined _
     taken-confined b p o (arm g body arms) e h r k c =
         let h′ = right (guard-reads g) (reads body ++ arms-read arms) h in
         andThen-confined (passes-confined g o p e (left _ (reads body ++ arms-read arms) h))
-          (λ y. cond-confined y
-            (around-confined (manner b o g) p e (allows b o g r k)
-              (visits-confined _ _ (visit-confined _ p e (λ e′. render-confined body e′ (left _ (arms-read arms) h′) (left _ (arms-write arms) c))) _ 1))
-            (taken-confined b p o arms e (right (reads body) _ h′) r k (right (writes body) _ c)))
+        (λ y. cond-confined y
+        (around-confined (manner b o g) p e (allows b o g r k)
+        (visits-confined _ _ (visit-confined _ p e (λ e′. render-confined body e′ (left _ (arms-read arms) h′) (left _ (arms-write arms) c))) _ 1))
+        (taken-confined b p o arms e (right (reads body) _ h′) r k (right (writes body) _ c)))

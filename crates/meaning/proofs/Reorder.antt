@@ -44,21 +44,25 @@ module _ (sheet : Sheet) (bank : Meaning) where
   slide c here d = (refl, λ r i. i)
   slide c (past {y = y} {v = v} n s) d =
       let h = slide c s (perform sheet bank (y .1) d .1) in
-      let q = commute sheet bank (c .1) (y .1) n d in
-      ( h .0 ∙ ap (left v) (q .drawers)
-      , λ r i. elim i
-          [ inl e ↦ inr (inl (e ∙ ap {B = ℕ × Result} (λ z. (y .0, z)) (sym (q .second))))
-          | inr j ↦ (elim (h .1 r j)
-              [ inl e ↦ inl (e ∙ ap {B = ℕ × Result} (λ z. (c .0, z)) (q .first))
-              | inr k ↦ inr (inr (subst (λ (D : Drawers). In r (tagged v D)) (q .drawers) k)) ]) ] )
+      let q = commute sheet bank (c .1) (y .1) n d in (
+        h .0 ∙ ap (left v) (q .drawers),
+        λ r i. elim i [
+          | inl e ↦ inr (inl (e ∙ ap {B = ℕ × Result} (λ z. (y .0, z)) (sym (q .second))))
+          | inr j ↦ (elim (h .1 r j) [
+            | inl e ↦ inl (e ∙ ap {B = ℕ × Result} (λ z. (c .0, z)) (q .first))
+            | inr k ↦ inr (inr (subst (λ (D : Drawers). In r (tagged v D)) (q .drawers) k))
+          ])
+        ],
+      )
 
   rearranged : {u v : List (ℕ × Call)} → Rearranged sheet u v → (d : Drawers) → Within u v d
   rearranged same d = (refl, λ r i. i)
   rearranged (front {c = c} r s) d =
       let h = slide c s d in
-      let k = rearranged r (perform sheet bank (c .1) d .1) in
-      ( h .0 ∙ k .0
-      , λ x i. elim (h .1 x i) [ inl e ↦ inl e | inr j ↦ inr (k .1 x j) ] )
+      let k = rearranged r (perform sheet bank (c .1) d .1) in (
+        h .0 ∙ k .0,
+        λ x i. elim (h .1 x i) [ inl e ↦ inl e | inr j ↦ inr (k .1 x j) ],
+      )
 
   tagged-numbered : (m : ℕ) (A : List Call) (d : Drawers) → tagged (numbered m A) d ≡ numbered m (run sheet bank A d .0)
   tagged-numbered m [] d = refl
@@ -133,14 +137,15 @@ module _ (sheet : Sheet) where
       let r = pull (m, c) w (h (m, c) (inl refl)) low k in
       let s = r .1 in
       front
-        (build (suc m) A (r .0)
-          (λ x i. elim (back-in (m, c) s x (h x (inr i)))
-            [ inl e ↦ (let j = numbered-in (suc m) A x i in let q : x .0 ≡ m = ap (λ (z : ℕ × Call). z .0) e in absurd (omega arith))
-            | inr j ↦ j ])
-          (λ x i. elim (g x (kept-in (m, c) s x i))
-            [ inl e ↦ absurd (tag-gone (m, c) s k x i (ap (λ (z : ℕ × Call). z .0) e)) | inr j ↦ j ])
-          (pairs-left (m, c) s k))
-        s
+      (build (suc m) A (r .0)
+      (λ x i. elim (back-in (m, c) s x (h x (inr i))) [
+        | inl e ↦ (let j = numbered-in (suc m) A x i in let q : x .0 ≡ m = ap (λ (z : ℕ × Call). z .0) e in absurd (omega arith))
+        | inr j ↦ j
+      ])
+      (λ x i. elim (g x (kept-in (m, c) s x i))
+      [ inl e ↦ absurd (tag-gone (m, c) s k x i (ap (λ (z : ℕ × Call). z .0) e)) | inr j ↦ j ])
+      (pairs-left (m, c) s k))
+      s
 
 in-numbered : {A : Type 0} (xs : List A) (i : ℕ) (x : A) → nth xs i ≡ Some x → In (i, x) (numbered 0 xs)
 in-numbered xs i x e = subst (λ (n : ℕ). In (n, x) (numbered 0 xs)) (zero-add i) (numbered-at 0 xs i x e)
@@ -152,7 +157,7 @@ of-numbered xs x i =
     subst (λ (n : ℕ). nth xs n ≡ Some (x .1)) q (j .2)
 
 module _ (sheet : Sheet) (A B : List Call) (p : List ℕ)
-  (arr : Arrangement (length A) p) (fol : Follows A p B) (keeps : Keeps-clashes sheet A p) where
+    (arr : Arrangement (length A) p) (fol : Follows A p B) (keeps : Keeps-clashes sheet A p) where
   all-there : (x : ℕ × Call) → In x (numbered 0 A) → In x (beside p B)
   all-there x i =
       let e = of-numbered A x i in
@@ -171,10 +176,11 @@ module _ (sheet : Sheet) (A B : List Call) (p : List ℕ)
       after : (k l : ℕ) (x y : ℕ × Call) → k < l → nth (beside p B) k ≡ Some y → nth (beside p B) l ≡ Some x → After sheet x y
       after k l x y lt f e =
           let bx = beside-back p B l x e .0 in
-          let by = beside-back p B k y f .0 in
-          ( (λ q. let z = arr .only k l (y .0) by (bx ∙ ap Some q) in omega arith)
-          , (λ less clash.
-              let z = keeps (x .0) (y .0) (x .1) (y .1) less (of-A l x e) (of-A k y f) clash l k bx by in omega arith) )
+          let by = beside-back p B k y f .0 in (
+            (λ q. let z = arr .only k l (y .0) by (bx ∙ ap Some q) in omega arith),
+            (λ less clash.
+                let z = keeps (x .0) (y .0) (x .1) (y .1) less (of-A l x e) (of-A k y f) clash l k bx by in omega arith),
+          )
 
   is-rearranged : Rearranged sheet (numbered 0 A) (beside p B)
   is-rearranged = build sheet 0 A (beside p B) all-there none-else in-order
@@ -182,15 +188,16 @@ module _ (sheet : Sheet) (A B : List Call) (p : List ℕ)
 pub order-free : Order-free
 order-free sheet bank d A B p arr fol keeps =
     let w = rearranged sheet bank (is-rearranged sheet A B p arr fol keeps) d in
-    let many : length (run sheet bank B d .0) ≡ length p = length-results sheet bank B d ∙ fol .as-many in
-    ( record {
+    let many : length (run sheet bank B d .0) ≡ length p = length-results sheet bank B d ∙ fol .as-many in (
+      record {
         as-many = many;
         from = λ k i e.
-          let r = there p (run sheet bank B d .0) many k i e in
-          let b = at-in (beside p (run sheet bank B d .0)) k (i, r .0) (beside-at p (run sheet bank B d .0) k i (r .0) e (r .1)) in
-          let t = w .1 (i, r .0) (subst (λ l. In (i, r .0) l) (sym (tagged-beside sheet bank p B d)) b) in
-          r .1 ∙ sym (of-numbered (run sheet bank A d .0) (i, r .0)
-            (subst (λ l. In (i, r .0) l) (tagged-numbered sheet bank 0 A d) t))
-      }
-    , λ t. ap (λ (D : Drawers). D t)
-        (sym (left-beside sheet bank p B (fol .as-many) d) ∙ w .0 ∙ left-numbered sheet bank 0 A d) )
+            let r = there p (run sheet bank B d .0) many k i e in
+            let b = at-in (beside p (run sheet bank B d .0)) k (i, r .0) (beside-at p (run sheet bank B d .0) k i (r .0) e (r .1)) in
+            let t = w .1 (i, r .0) (subst (λ l. In (i, r .0) l) (sym (tagged-beside sheet bank p B d)) b) in
+            r .1 ∙ sym (of-numbered (run sheet bank A d .0) (i, r .0)
+            (subst (λ l. In (i, r .0) l) (tagged-numbered sheet bank 0 A d) t));
+      },
+      λ t. ap (λ (D : Drawers). D t)
+          (sym (left-beside sheet bank p B (fol .as-many) d) ∙ w .0 ∙ left-numbered sheet bank 0 A d),
+    )

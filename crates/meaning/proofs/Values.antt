@@ -81,16 +81,16 @@ module _ {X W : Thing → Type 0} (w : World) where
   tested-confined (exists x) p e h = andThen-confined (reach-confined x e h) (λ m. still-confined _)
   tested-confined (compares x c y) p e h =
       andThen-confined (eval-confined x p e (left _ (expr-reads y) h))
-        (λ a. andThen-confined (eval-confined y p e (right (expr-reads x) _ h)) (λ b. compared-confined c a b p e))
+      (λ a. andThen-confined (eval-confined y p e (right (expr-reads x) _ h)) (λ b. compared-confined c a b p e))
 
   pub judged-confined : (c : Condition) (p : ℕ) (e : Frames) → Covers X (condition-reads c) → Confined X W (judged w c p e)
   judged-confined (only t) p e h = tested-confined t p e h
   judged-confined (both t c) p e h =
       andThen-confined (tested-confined t p e (left _ (condition-reads c) h))
-        (λ y. cond-confined y (judged-confined c p e (right (test-reads t) _ h)) (still-confined _))
+      (λ y. cond-confined y (judged-confined c p e (right (test-reads t) _ h)) (still-confined _))
   judged-confined (either t c) p e h =
       andThen-confined (tested-confined t p e (left _ (condition-reads c) h))
-        (λ y. cond-confined y (still-confined _) (judged-confined c p e (right (test-reads t) _ h)))
+      (λ y. cond-confined y (still-confined _) (judged-confined c p e (right (test-reads t) _ h)))
 
   answered-confined : (r : Result Given Cause) (p : ℕ) (e : Frames) → Confined X W (answered r p e)
   answered-confined (Ok (aNumber z)) p e = still-confined _
@@ -110,11 +110,11 @@ module _ {X W : Thing → Type 0} (w : World) where
   through-confined [] v p e h = still-confined _
   through-confined (f ∷ fs) v p e h =
       andThen-confined (argument-confined (f .argument) p e (left _ (filters-read fs) h))
-        (λ a. andThen-confined (called-confined (w .bank) (f .filter) (fit v) (fit-argument a) p e)
-          (λ u. through-confined fs u p e (right (option-reads (f .argument)) _ h)))
+      (λ a. andThen-confined (called-confined (w .bank) (f .filter) (fit v) (fit-argument a) p e)
+      (λ u. through-confined fs u p e (right (option-reads (f .argument)) _ h)))
 
   pub chained-confined : (c : Chain) (p : ℕ) (e : Frames) → Covers X (chain-reads c) → Confined X W (chained w c p e)
   unfolding chained
   chained-confined c p e h =
       andThen-confined (eval-confined (c .value) p e (left _ (filters-read (c .filters)) h))
-        (λ v. through-confined (c .filters) v p e (right (expr-reads (c .value)) _ h))
+      (λ v. through-confined (c .filters) v p e (right (expr-reads (c .value)) _ h))

@@ -13,3 +13,5 @@ pub mod Rendering
 pub mod Sharing
 pub mod Calls
 pub mod Order
+pub mod Examples
+pub mod Worked

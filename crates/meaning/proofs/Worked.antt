@@ -1,0 +1,79 @@
+-- The worked cases, by computation.
+use mathlib.Core.Path.{_≡_, refl}
+use mathlib.Core.Logic.{_⊎_, inl, inr}
+use Prim.Native.Nat.{ℕ}
+use native.Mathlib.Omega.{arith}
+use Rattle.numerals.specs.Decimal.{naturalText, wholeText, wholeOf}
+use Rattle.rows.specs.Windows.{windowed}
+use Rattle.tray.specs.Parts.{sameText}
+use Rattle.values.specs.Meaning.{valueAt}
+use Rattle.meaning.specs.Things.{Thing, name}
+use Rattle.meaning.specs.Acts.{_andThen_, still, emit, append, look, alter, aside}
+use Rattle.meaning.specs.Looking.{find, reach, eval}
+use Rattle.meaning.specs.Tests.{tested}
+use Rattle.meaning.specs.Chains.{chained}
+use Rattle.meaning.specs.Leaves.{leaf-act}
+use Rattle.meaning.specs.Openings.{gone-over, opened}
+use Rattle.meaning.specs.Blocks.{around, passes}
+use Rattle.meaning.specs.Rendering.{render, taken}
+use Rattle.meaning.specs.Calls.{perform}
+use Rattle.meaning.specs.Worked.{Cycles, Counters, Tables, Conditions, Windows, Visits, Pieces, Trail, Clashes, Worked-cases}
+
+cycles-stand : Cycles
+unfolding naturalText wholeText wholeOf windowed sameText valueAt _andThen_ still emit append look alter aside find reach eval tested chained leaf-act gone-over opened around passes render taken perform
+cycles-stand = record { results = refl; position = refl }
+
+counters-stand : Counters
+unfolding naturalText wholeText wholeOf windowed sameText valueAt _andThen_ still emit append look alter aside find reach eval tested chained leaf-act gone-over opened around passes render taken perform
+counters-stand = record { results = refl; counter = refl }
+
+tables-stand : Tables
+unfolding naturalText wholeText wholeOf windowed sameText valueAt _andThen_ still emit append look alter aside find reach eval tested chained leaf-act gone-over opened around passes render taken perform
+tables-stand = record { two-columns = refl; broken-off = refl }
+
+conditions-stand : Conditions
+unfolding naturalText wholeText wholeOf windowed sameText valueAt _andThen_ still emit append look alter aside find reach eval tested chained leaf-act gone-over opened around passes render taken perform
+conditions-stand = record { from-the-right = refl; as-far-as-needed = refl }
+
+windows-stand : Windows
+unfolding naturalText wholeText wholeOf windowed sameText valueAt _andThen_ still emit append look alter aside find reach eval tested chained leaf-act gone-over opened around passes render taken perform
+windows-stand = record { cut-off = refl; backwards = refl; past-the-row = refl; limit-0 = refl; limit-below-0 = refl; offset-below-0 = refl; offset-below-0-only = refl; both-ways = refl }
+
+visits-stand : Visits
+unfolding naturalText wholeText wholeOf windowed sameText valueAt _andThen_ still emit append look alter aside find reach eval tested chained leaf-act gone-over opened around passes render taken perform
+visits-stand = record { one-after-another = refl; no-else = refl }
+
+pieces-stand : Pieces
+unfolding naturalText wholeText wholeOf windowed sameText valueAt _andThen_ still emit append look alter aside find reach eval tested chained leaf-act gone-over opened around passes render taken perform
+pieces-stand = record { exactly = refl; too-short = refl; shown-once = refl }
+
+trail-stands : Trail
+unfolding naturalText wholeText wholeOf windowed sameText valueAt _andThen_ still emit append look alter aside find reach eval tested chained leaf-act gone-over opened around passes render taken perform
+trail-stands = refl
+
+apart : {x : Thing} → x ≡ name 1 → x ≡ name 0 → ⊥
+apart e f = let z : _≡_ {A = ℕ} 1 0 = cc in absurd (omega arith)
+
+clashes-stand : Clashes
+clashes-stand =
+    record {
+      with-its-counter = inr (name 0, inl refl, inl refl);
+      not-with-another = λ c. elim c [
+        | inl m ↦ m .1
+        | inr m ↦ elim (m .1) [ inl e ↦ (elim (m .2) [ inl f ↦ apart e f | inr i ↦ absurd i ]) | inr i ↦ absurd i ]
+      ];
+    }
+
+pub worked-cases : Worked-cases
+worked-cases =
+    record {
+      cycles = cycles-stand;
+      counters = counters-stand;
+      tables = tables-stand;
+      conditions = conditions-stand;
+      windows = windows-stand;
+      visits = visits-stand;
+      pieces = pieces-stand;
+      trail = trail-stands;
+      clashes = clashes-stand;
+    }

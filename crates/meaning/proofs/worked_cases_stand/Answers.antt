@@ -1,0 +1,6 @@
+-- The cases are computed in proofs/Worked.antt.
+use Rattle.meaning.proofs.Worked.{worked-cases}
+use Rattle.meaning.proofs.worked_cases_stand.Needs as need
+
+pub returns : need.returns
+returns c = record { cases = worked-cases }
