@@ -10,7 +10,8 @@ use Rattle.meaning.specs.Acts.{Act, gives, stops, Step, step}
 use Rattle.meaning.specs.Leaves.{Flow}
 use Rattle.meaning.specs.Calls.{Sheet, Call, Judged, refusal, sets, renders, judged, judged-reads, judged-writes, call-reads, call-writes}
 use Rattle.meaning.specs.Calls.{In, Meet, Clash, act, result, drawers-after, perform}
-use Rattle.meaning.proofs.Confined.{Agree, Alike, alike, Kept, Confined, andThen-confined, still-confined, alter-confined}
+use Rattle.meaning.proofs.Tied.{Agree, Alike, alike, Kept}
+use Rattle.meaning.proofs.Confined.{Confined, andThen-confined, quiet-confined, alter-confined}
 use Rattle.meaning.proofs.Covers.{Covers, in-left, in-right}
 use Rattle.meaning.proofs.Rendering.{render-confined}
 
@@ -32,11 +33,17 @@ alike-result sheet bank (renders t w k) (alike {r = stops f} h) = (refl, h)
 kept-after : (W : Thing → Type 0) (d : Drawers) (s : Step Flow) → Kept W d s → (t : Thing) → ¬ (W t) → drawers-after s t ≡ d t
 kept-after W d (step e o r) h = h
 
+-- the space that a call has
+abbrev space : Judged → ℕ
+space (refusal n) = 0
+space (sets n v) = 0
+space (renders t w k) = k
+
 module _ (sheet : Sheet) (bank : Meaning) where
-  act-confined : {X W : Thing → Type 0} (j : Judged) →
-      Covers X (judged-reads j) → Covers W (judged-writes j) → Confined X W (act sheet bank j)
-  act-confined (refusal n) h g = still-confined _
-  act-confined (sets n v) h g = andThen-confined (alter-confined (name n) _ (g (name n) (inl refl))) (λ _. still-confined _)
+  pub act-confined : {X W : Thing → Type 0} (j : Judged) →
+      Covers X (judged-reads j) → Covers W (judged-writes j) → Confined (space j) X W (act sheet bank j)
+  act-confined (refusal n) h g = quiet-confined _
+  act-confined (sets n v) h g = andThen-confined (alter-confined (name n) _ (g (name n) (inl refl))) (λ _. quiet-confined _)
   act-confined (renders t w k) h g = render-confined _ t [] h g
 
   -- (i) a call changes only what it writes
@@ -44,13 +51,13 @@ module _ (sheet : Sheet) (bank : Meaning) where
   unfolding perform
   keeps c d =
       kept-after (λ t. In t (call-writes sheet c)) d (act sheet bank (judged sheet c) d [])
-      (act-confined {X = λ _. Unit {0}} (judged sheet c) (λ _ _. tt) (λ _ i. i) .frame d [])
+      (act-confined {X = λ _. Unit {0}} (judged sheet c) (λ _ _. tt) (λ _ i. i) .tied .frame d [])
 
   -- (ii) a call depends only on what it reads, and drawers that agree on more than that agree there afterwards
   pub agrees : (X : Thing → Type 0) (c : Call) (d e : Drawers) → Covers X (call-reads sheet c) → Agree X d e →
       (perform sheet bank c d .0 ≡ perform sheet bank c e .0) × Agree X (perform sheet bank c d .1) (perform sheet bank c e .1)
   unfolding perform
-  agrees X c d e h a = alike-result sheet bank (judged sheet c) (act-confined {W = λ _. Unit {0}} (judged sheet c) h (λ _ _. tt) .same d e [] a)
+  agrees X c d e h a = alike-result sheet bank (judged sheet c) (act-confined {W = λ _. Unit {0}} (judged sheet c) h (λ _ _. tt) .tied .same d e [] a)
 
   -- `b` after an `a` that writes nothing that `b` reads or writes
   quiet : (a b : Call) → ¬ (Meet (call-writes sheet a) (call-reads sheet b ++ call-writes sheet b)) → (d : Drawers) →

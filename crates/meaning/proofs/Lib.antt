@@ -1,3 +1,4 @@
+pub mod Tied
 pub mod Confined
 pub mod Covers
 pub mod Values

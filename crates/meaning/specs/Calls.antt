@@ -1,10 +1,9 @@
 -- Calls on a sheet: what each gives and leaves, what it reads and writes, and runs of them.
-use mathlib.Core.Bool.{Bool, true, false, cond, _||_}
+use mathlib.Core.Bool.{Bool, true, false, cond}
 use mathlib.Core.Logic.{_⊎_}
 use mathlib.Core.Path.{_≡_}
 use mathlib.Core.List.{List, [], _∷_, _++_}
 use Prim.Native.Nat.{ℕ, _-_}
-use lib.Chars.{codes}
 use lib.Dec.{leb}
 use lib.ListN.{length, replicate}
 use Rattle.std.specs.shelf.Maps.{nth}
@@ -12,6 +11,7 @@ use Rattle.std.specs.declared.option.Option.{Option}
 use Rattle.std.specs.declared.option.Option.the-variants.{Some, None}
 use Rattle.rows.specs.First.{firstFrom}
 use Rattle.tray.specs.Parts.{sameText}
+use Rattle.tray.specs.Sound.{reserved}
 use Rattle.banks.specs.Meaning.{Meaning}
 use Rattle.banks.specs.Operands.{Datum}
 use Rattle.banks.specs.Operands as operand
@@ -34,9 +34,6 @@ pub record Sheet : Type 0 where
 pub data Call : Type 0 where
   put : (called : List ℕ) → Datum → Call
   page : (number : ℕ) → Host → (buffer trail : ℕ) → Call
-
-abbrev pub reserved : List ℕ → Bool
-reserved k = sameText k (codes "forloop") || (sameText k (codes "tablerowloop") || (sameText k (codes "empty") || sameText k (codes "blank")))
 
 -- the number of a name of the sheet
 abbrev pub name-number : Sheet → List ℕ → Option ℕ
@@ -125,6 +122,9 @@ filled limit o = o ++ replicate (limit - length o) 0
 abbrev pub ticket : ℕ → Step Flow → Result
 ticket limit (step d o (gives f)) = rendered None (filled limit o) (sixteen [])
 ticket limit (step d o (stops f)) = rendered (Some f) (filled limit o) (sixteen (f .trail))
+
+abbrev pub text-after : {A : Type 0} → Step A → List ℕ
+text-after (step d o e) = o
 
 abbrev pub drawers-after : {A : Type 0} → Step A → Drawers
 drawers-after (step d o e) = d
