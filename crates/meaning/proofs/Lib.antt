@@ -7,3 +7,4 @@ pub mod Commute
 pub mod Indexes
 pub mod Reorder
 pub mod Worked
+pub mod Laws

@@ -15,3 +15,4 @@ pub mod Calls
 pub mod Order
 pub mod Examples
 pub mod Worked
+pub mod Laws
