@@ -8,3 +8,4 @@ pub mod Indexes
 pub mod Reorder
 pub mod Worked
 pub mod Laws
+pub mod Reading

@@ -14,6 +14,7 @@ use Rattle.tray.specs.declared.records.Record.{Record}
 use Rattle.tray.specs.declared.records.Record.the-variants.{Nil, Boolean, Whole, Text, Array, Object}
 use Rattle.tray.specs.Parts.{cut, sameText}
 use Rattle.tray.specs.Sound.{at}
+use Rattle.values.specs.Found.{placeOf}
 use Rattle.values.specs.Meaning.{valueAt, keyAt}
 use Rattle.values.specs.RowsOf.{paired, stepping}
 use Rattle.values.specs.Value.{Value}
@@ -86,8 +87,7 @@ module _ (h : Host) where
 
   -- the item at an index among `n` records from `f` on; a negative index counts from the end
   abbrev pub item-at : ℕ → ℕ → ℤ → Option Held
-  item-at f n (pos k) = cond (ltb k n) (Some (record-at (f + k))) None
-  item-at f n (negsuc k) = cond (ltb k n) (Some (record-at (f + (n - suc k)))) None
+  item-at f n z = mapped (λ k. record-at (f + k)) (placeOf n z)
 
   -- no key but these three steps into an array
   abbrev pub item-keyed : ℕ → ℕ → List ℕ → Option Held

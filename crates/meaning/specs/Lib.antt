@@ -16,3 +16,4 @@ pub mod Order
 pub mod Examples
 pub mod Worked
 pub mod Laws
+pub mod Reading

@@ -1,6 +1,7 @@
 // What a ticket means. The definitions are in specs/; the functions here stand for theorems about them.
 ghost use Rattle.meaning.specs.Laws.{Changes-only-what-it-writes, Depends-only-on-what-it-reads, Without-a-clash-they-commute, Refused-calls-touch-nothing, Rendering-only-adds, Tickets-are-whole};
 ghost use Rattle.meaning.specs.Order.{Order-free};
+ghost use Rattle.meaning.specs.Reading.{Steps-agree, Rows-agree, Read-again-is-there};
 ghost use Rattle.meaning.specs.Worked.{Worked-cases};
 
 // Calls may be made in any order that keeps the order of those that clash.
@@ -31,6 +32,15 @@ pub fn sharing_stands() -> u8
 pub fn text_stands() -> u8
     ensures adds { λ _. ⌜ Rendering-only-adds ⌝ }
     ensures whole { λ _. ⌜ Tickets-are-whole ⌝ }
+{
+    0
+}
+
+// A held array, object or pair is the value of its records.
+pub fn reading_stands() -> u8
+    ensures steps { λ _. ⌜ Steps-agree ⌝ }
+    ensures rows { λ _. ⌜ Rows-agree ⌝ }
+    ensures again { λ _. ⌜ Read-again-is-there ⌝ }
 {
     0
 }
