@@ -17,6 +17,8 @@ use Rattle.meaning.specs.Openings.{gone-over, opened}
 use Rattle.meaning.specs.Blocks.{around, passes}
 use Rattle.meaning.specs.Rendering.{render, taken}
 use Rattle.meaning.specs.Calls.{perform}
+use Rattle.meaning.specs.FaultCases.{Fault-cases}
+use Rattle.meaning.specs.PageCases.{Page-cases}
 use Rattle.meaning.specs.Worked.{Cycles, Counters, Tables, Conditions, Windows, Visits, Pieces, Trail, Clashes, Worked-cases}
 
 cycles-stand : Cycles
@@ -76,4 +78,46 @@ worked-cases =
       pieces = pieces-stand;
       trail = trail-stands;
       clashes = clashes-stand;
+    }
+
+pub fault-cases : Fault-cases
+unfolding naturalText wholeText wholeOf windowed sameText valueAt _andThen_ still emit append look alter aside find reach eval tested chained leaf-act gone-over opened around passes render taken perform
+fault-cases =
+    record {
+      absent = refl;
+      absent-compared = refl;
+      no-number = refl;
+      no-row = refl;
+      no-column = refl;
+      empty-table = refl;
+      no-values = refl;
+      long-range = refl;
+      upper-edge = refl;
+      lower-edge = refl;
+      in-nil = refl;
+      loop-object = refl;
+      long-text = refl;
+      long-capture = refl;
+      short-capture = refl;
+      unknown-filter = refl;
+      wrong-operand = refl;
+      missing-operand = refl;
+      unfit-operand = refl;
+      argument-first = refl;
+      beyond = refl;
+      no-room = refl;
+    }
+
+pub page-cases : Page-cases
+unfolding naturalText wholeText wholeOf windowed sameText valueAt _andThen_ still emit append look alter aside find reach eval tested chained leaf-act gone-over opened around passes render taken perform
+page-cases =
+    record {
+      trail = refl;
+      changed-twice = refl;
+      changed-always = refl;
+      filter = refl;
+      loops = refl;
+      case-once = refl;
+      read-again = refl;
+      puts = refl;
     }

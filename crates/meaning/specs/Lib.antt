@@ -17,3 +17,5 @@ pub mod Examples
 pub mod Worked
 pub mod Laws
 pub mod Reading
+pub mod FaultCases
+pub mod PageCases

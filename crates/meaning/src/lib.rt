@@ -1,6 +1,8 @@
 // What a ticket means. The definitions are in specs/; the functions here stand for theorems about them.
+ghost use Rattle.meaning.specs.FaultCases.{Fault-cases};
 ghost use Rattle.meaning.specs.Laws.{Changes-only-what-it-writes, Depends-only-on-what-it-reads, Without-a-clash-they-commute, Refused-calls-touch-nothing, Rendering-only-adds, Tickets-are-whole};
 ghost use Rattle.meaning.specs.Order.{Order-free};
+ghost use Rattle.meaning.specs.PageCases.{Page-cases};
 ghost use Rattle.meaning.specs.Reading.{Steps-agree, Rows-agree, Read-again-is-there};
 ghost use Rattle.meaning.specs.Worked.{Worked-cases};
 
@@ -14,6 +16,8 @@ pub fn order_stands() -> u8
 // Small templates give what a reader works out for them.
 pub fn worked_cases_stand() -> u8
     ensures cases { λ _. ⌜ Worked-cases ⌝ }
+    ensures faults { λ _. ⌜ Fault-cases ⌝ }
+    ensures pages { λ _. ⌜ Page-cases ⌝ }
 {
     0
 }
