@@ -18,6 +18,7 @@ use Rattle.meaning.specs.Blocks.{around, passes}
 use Rattle.meaning.specs.Rendering.{render, taken}
 use Rattle.meaning.specs.Calls.{perform}
 use Rattle.meaning.specs.FaultCases.{Fault-cases}
+use Rattle.meaning.specs.MoreCases.{More-cases}
 use Rattle.meaning.specs.PageCases.{Page-cases}
 use Rattle.meaning.specs.Worked.{Cycles, Counters, Tables, Conditions, Windows, Visits, Pieces, Trail, Clashes, Worked-cases}
 
@@ -120,4 +121,55 @@ page-cases =
       case-once = refl;
       read-again = refl;
       puts = refl;
+    }
+
+pub more-cases : More-cases
+unfolding naturalText wholeText wholeOf windowed sameText valueAt _andThen_ still emit append look alter aside find reach eval tested chained leaf-act gone-over opened around passes render taken perform
+more-cases =
+    record {
+      variable-first = refl;
+      held-nil = refl;
+      tray-before-counter = refl;
+      counter-last = refl;
+      frame-first = refl;
+      index-1 = refl;
+      from-the-end = refl;
+      first = refl;
+      last = refl;
+      size = refl;
+      past = refl;
+      before = refl;
+      text-key = refl;
+      unequal-kinds = refl;
+      differing-kinds = refl;
+      less = refl;
+      not-less = refl;
+      more = refl;
+      beginning = refl;
+      at-most-itself = refl;
+      not-at-most = refl;
+      at-least-itself = refl;
+      not-at-least = refl;
+      no-order = refl;
+      no-mixed-order = refl;
+      text-in-text = refl;
+      text-not-in-text = refl;
+      number-in-number = refl;
+      item-of-array = refl;
+      no-item-of-array = refl;
+      joined = refl;
+      never-nil = refl;
+      unless = refl;
+      zero-is-true = refl;
+      absent-is-false = refl;
+      continues = refl;
+      breaks = refl;
+      breaks-out-of-capture = refl;
+      breaks-out-of-else = refl;
+      breaks-at-the-end = refl;
+      one-row = refl;
+      negative-cols = refl;
+      last-columns = refl;
+      first-columns = refl;
+      mark-without-room = refl;
     }

@@ -19,3 +19,4 @@ pub mod Laws
 pub mod Reading
 pub mod FaultCases
 pub mod PageCases
+pub mod MoreCases
