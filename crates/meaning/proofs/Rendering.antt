@@ -14,7 +14,7 @@ use Rattle.rows.specs.Windows.{windowed}
 use lib.ListN.{length, take, drop}
 use Rattle.tree.specs.Expressions.{Expr, Row, row-of, range}
 use Rattle.tree.specs.Elements.{Leaf, plain, output, assign, increment, decrement, cycle, break, continue}
-use Rattle.tree.specs.Elements.{Block, if-block, case-block, for-block, tablerow-block, capture-block, ifchanged-block, Guard, holds, fails, equals-one, has-items, has-none, always, Tree, done, leaf, block, Arms, no-arms, arm}
+use Rattle.tree.specs.Elements.{Block, if-block, case-block, for-block, tablerow-block, capture-block, ifchanged-block, Guard, holds, fails, equals-one, has-items, always, Tree, done, leaf, block, Arms, no-arms, arm}
 use Rattle.meaning.specs.Things.{Thing, name, cycle-name, changed, Drawers, altered, Held, with-variable, with-shown}
 use Rattle.meaning.specs.Frames.{Frames, Manner, once, each, cells, keeping, watching}
 use Rattle.meaning.specs.Acts.{Act, _andThen_, pure, aside, Step, step, gives, stops, fault-at, still, faults, append, look, alter}
@@ -42,7 +42,6 @@ for-allows X W v o (holds c) = tt
 for-allows X W v o (fails c) = tt
 for-allows X W v o (equals-one xs) = tt
 for-allows X W v o has-items = tt
-for-allows X W v o has-none = tt
 for-allows X W v o always = tt
 
 -- a text that stood in the buffer has space there again
@@ -220,7 +219,6 @@ module _ {X W : Thing → Type 0} (w : World) where
   passes-confined (fails c) o p e h = andThen-confined (judged-confined w c p e h) (λ y. quiet-confined _)
   passes-confined (equals-one xs) o p e h = one-equal-confined xs _ p e h
   passes-confined has-items o p e h = quiet-confined _
-  passes-confined has-none o p e h = quiet-confined _
   passes-confined always o p e h = quiet-confined _
 
   mark-if-confined : (b : Bool) (t : List ℕ) (p : ℕ) (e : Frames) → Confined (w .limit) X W (mark-if w b t p e)

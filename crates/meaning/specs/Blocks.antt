@@ -9,7 +9,7 @@ use lib.ListN.{length}
 use Rattle.numerals.specs.Decimal.{naturalText}
 use Rattle.tray.specs.Parts.{sameText}
 use Rattle.tree.specs.Expressions.{Expr}
-use Rattle.tree.specs.Elements.{Block, if-block, case-block, for-block, tablerow-block, capture-block, ifchanged-block, Guard, holds, fails, equals-one, has-items, has-none, always}
+use Rattle.tree.specs.Elements.{Block, if-block, case-block, for-block, tablerow-block, capture-block, ifchanged-block, Guard, holds, fails, equals-one, has-items, always}
 use Rattle.meaning.specs.Things.{name, changed, Content, Held, nil, text, with-variable, with-shown}
 use Rattle.meaning.specs.Frames.{Manner, once, each, cells, keeping, watching, Frame, Frames, column, row-number, is-col-first, is-col-last}
 use Rattle.meaning.specs.Acts.{Step, Act, go-on, _andThen_, pure, faults, emit, append, look, alter, cut}
@@ -47,7 +47,6 @@ for-manner v o (holds c) = once
 for-manner v o (fails c) = once
 for-manner v o (equals-one xs) = once
 for-manner v o has-items = each v (length (items o))
-for-manner v o has-none = once
 for-manner v o always = once
 
 abbrev pub manner : Block → Opening → Guard → Manner
@@ -146,7 +145,6 @@ module _ (w : World) where
   passes (fails c) o p e = judged w c p e andThen λ y. pure (not y)
   passes (equals-one xs) o p e = one-equal xs (target-of o) p e
   passes has-items o p e = pure (is-filled (items o))
-  passes has-none o p e = pure (not (is-filled (items o)))
   passes always o p e = pure true
 
   abbrev pub mark-if : Bool → List ℕ → ℕ → Frames → Act (Unit {0})

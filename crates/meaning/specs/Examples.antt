@@ -10,7 +10,7 @@ use Rattle.tray.specs.declared.records.Record.the-variants.{Text, Array, Object
 use Rattle.tree.specs.Expressions.{forloop, named, key, Expr, boolean-literal, number-literal, text-literal, path, Chain, row-of}
 use Rattle.tree.specs.Conditions.{equals, exists, compares, only, both, either}
 use Rattle.tree.specs.Elements.{Leaf, plain, output, increment, decrement, cycle, break}
-use Rattle.tree.specs.Elements.{if-block, for-block, tablerow-block, capture-block, ifchanged-block, holds, has-items, has-none, always, Tree, done, leaf, block, Arms, no-arms, arm}
+use Rattle.tree.specs.Elements.{if-block, for-block, tablerow-block, capture-block, ifchanged-block, holds, has-items, always, Tree, done, leaf, block, Arms, no-arms, arm}
 use Rattle.meaning.specs.Hosts.{Host}
 
 -- `l` is an array of the texts a, b, c
@@ -88,7 +88,7 @@ not-asked =
 abbrev pub window-of : (offset limit : Option Expr) → Bool → Tree
 window-of offset limit reversed =
     block 0 (for-block 3 (row-of (bare-name 2)) limit offset reversed)
-    (arm has-items (leaf 50 (shown-name 3) done) (arm has-none (leaf 67 (plain (codes "-")) done) no-arms)) done
+    (arm has-items (leaf 50 (shown-name 3) done) (arm always (leaf 67 (plain (codes "-")) done) no-arms)) done
 
 -- {% for i in l %}{% increment n %}{% endfor %}
 abbrev pub counted-visits : Tree
@@ -100,7 +100,7 @@ counted-visits =
 abbrev pub broken-at-once : Tree
 broken-at-once =
     block 0 (for-block 3 (row-of (bare-name 2)) None None false)
-    (arm has-items (leaf 16 break done) (arm has-none (leaf 37 (plain (codes "-")) done) no-arms))
+    (arm has-items (leaf 16 break done) (arm always (leaf 37 (plain (codes "-")) done) no-arms))
     (leaf 50 (plain (codes ".")) done)
 
 -- {% capture n %}ab{% endcapture %}{{ n }}

@@ -14,7 +14,7 @@ use Rattle.banks.specs.Operands.{Datum}
 use Rattle.banks.specs.Operands as operand
 use Rattle.tree.specs.Expressions.{tablerowloop, named, Step, index, key, Expr, nil-literal, boolean-literal, number-literal, text-literal, path, row-of, range}
 use Rattle.tree.specs.Conditions.{Comparison, equals, differs, is-less, is-more, at-most, at-least, contains, exists, compares, only}
-use Rattle.tree.specs.Elements.{Leaf, plain, output, assign, increment, break, continue, if-block, for-block, tablerow-block, capture-block, ifchanged-block, holds, fails, has-items, has-none, always, Tree, done, leaf, block, no-arms, arm}
+use Rattle.tree.specs.Elements.{Leaf, plain, output, assign, increment, break, continue, if-block, for-block, tablerow-block, capture-block, ifchanged-block, holds, fails, has-items, always, Tree, done, leaf, block, no-arms, arm}
 use Rattle.meaning.specs.Things.{unset}
 use Rattle.meaning.specs.Frames.{blank}
 use Rattle.meaning.specs.Calls.{put, accepted, rendered, run}
@@ -103,7 +103,7 @@ pub record More-cases : Type 0 where
       Says (over-l (block 1 (capture-block 0) (arm always (leaf 2 (plain (codes "x")) (leaf 3 break (leaf 4 (plain (codes "y")) done))) no-arms) (leaf 5 (plain (codes "!")) done)) (leaf 6 (shown-name 0) done)) "x"
   -- {% for i in l %}{% for i in nil %}{% else %}{% break %}{% endfor %}!{% endfor %}.: an `else` is no visit
   pub breaks-out-of-else :
-      Says (over-l (block 1 (for-block 3 (row-of nil-literal) None None false) (arm has-items done (arm has-none (leaf 2 break done) no-arms)) (leaf 3 (plain (codes "!")) done)) dot) "."
+      Says (over-l (block 1 (for-block 3 (row-of nil-literal) None None false) (arm has-items done (arm always (leaf 2 break done) no-arms)) (leaf 3 (plain (codes "!")) done)) dot) "."
   -- a break outside every loop ends the ticket, and means nothing more
   pub breaks-at-the-end : Says (leaf 0 (plain (codes "a")) (leaf 1 break (leaf 2 (plain (codes "b")) done))) "a"
   -- tables without `cols`, with a negative one, and the fields of their objects

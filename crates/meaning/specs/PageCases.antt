@@ -11,7 +11,7 @@ use Rattle.std.specs.declared.option.Option.the-variants.{Some, None}
 use Rattle.banks.specs.Joined.{nothing}
 use Rattle.banks.specs.Operands as operand
 use Rattle.banks.specs.Sums.{sums}
-use Rattle.tray.specs.declared.records.Record.the-variants.{Nil, Text, Object}
+use Rattle.tray.specs.declared.records.Record.the-variants.{Text, Object}
 use Rattle.tree.specs.Expressions.{forloop, tablerowloop, key, Expr, number-literal, text-literal, path, row-of, range}
 use Rattle.tree.specs.Conditions.{equals, compares, only}
 use Rattle.tree.specs.Elements.{Leaf, plain, output, assign, if-block, case-block, for-block, tablerow-block, ifchanged-block, holds, equals-one, has-items, always, Tree, done, leaf, block, no-arms, arm}
@@ -73,9 +73,9 @@ first-when =
 abbrev pub keep-l : Tree
 keep-l = one-leaf (assign 0 (record { value = bare-name 2; filters = [] }))
 
--- another tray, in which record 2 is no array
+-- another tray, in which record 2 is a text
 abbrev pub no-array : Host
-no-array = record { records = Object 1 1 ∷ Text 0 1 ∷ Nil ∷ []; letters = codes "l" }
+no-array = record { records = Object 1 1 ∷ Text 0 1 ∷ Text 1 1 ∷ []; letters = codes "lx" }
 
 pub record Page-cases : Type 0 where
   -- a fault in the second visit: the `if` at 21, then the `for` at 0 in its visit 2

@@ -6,7 +6,7 @@ use Rattle.std.specs.declared.option.Option.the-variants.{Some, None}
 use Rattle.tree.specs.Expressions.{Head, forloop, tablerowloop, named, Expr, nil-literal, boolean-literal, number-literal, text-literal, path, Filter, Chain, Row, row-of, range}
 use Rattle.tree.specs.Conditions.{Test, exists, compares, Condition, only, both, either}
 use Rattle.tree.specs.Elements.{Leaf, plain, output, assign, increment, decrement, cycle, break, continue}
-use Rattle.tree.specs.Elements.{Block, if-block, case-block, for-block, tablerow-block, capture-block, ifchanged-block, Guard, holds, fails, equals-one, has-items, has-none, always, Tree, done, leaf, block, Arms, no-arms, arm}
+use Rattle.tree.specs.Elements.{Block, if-block, case-block, for-block, tablerow-block, capture-block, ifchanged-block, Guard, holds, fails, equals-one, has-items, always, Tree, done, leaf, block, Arms, no-arms, arm}
 use Rattle.meaning.specs.Things.{Thing, name, cycle-name, changed}
 
 -- a path to a loop object reads nothing
@@ -92,7 +92,6 @@ guard-reads (holds c) = condition-reads c
 guard-reads (fails c) = condition-reads c
 guard-reads (equals-one xs) = exprs-read xs
 guard-reads has-items = []
-guard-reads has-none = []
 guard-reads always = []
 
 abbrev mutual

@@ -29,14 +29,13 @@ pub data Block : Type 0 where
 -- What decides about an arm of a block:
 --   `if`, `elsif`: a condition that holds; `unless`: one that does not;
 --   `when`: a value that is equal to the target;
---   the body of a loop: that its window has an item; the `else` of a `for`: that it has none;
---   any other `else`, and the body of `capture` and `ifchanged`: nothing.
+--   the body of a loop: that its window has an item;
+--   an `else`, and the body of `capture` and `ifchanged`: nothing.
 pub data Guard : Type 0 where
   holds : Condition → Guard
   fails : Condition → Guard
   equals-one : List Expr → Guard
   has-items : Guard
-  has-none : Guard
   always : Guard
 
 mutual
