@@ -107,6 +107,10 @@ fault-cases =
       argument-first = refl;
       beyond = refl;
       no-room = refl;
+      not-counted = refl;
+      still-advanced = refl;
+      not-kept = refl;
+      done-before = refl;
     }
 
 pub page-cases : Page-cases

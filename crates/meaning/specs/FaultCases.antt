@@ -14,10 +14,10 @@ use Rattle.banks.specs.Sums.{sums}
 use Rattle.tree.specs.Expressions.{forloop, Expr, nil-literal, boolean-literal, number-literal, text-literal, path, row-of, range}
 use Rattle.tree.specs.Conditions.{Condition, equals, contains, compares, only}
 use Rattle.tree.specs.Elements.{Leaf, plain, output, assign, increment, decrement, cycle, if-block, for-block, tablerow-block, capture-block, holds, has-items, always, Tree, done, leaf, block, no-arms, arm}
-use Rattle.meaning.specs.Things.{name, Drawers, unset, altered, with-counter}
+use Rattle.meaning.specs.Things.{name, cycle-name, Drawers, unset, altered, with-counter, whole}
 use Rattle.meaning.specs.Frames.{TrailRecord, blank, stands}
 use Rattle.meaning.specs.Calls.{rendered, run}
-use Rattle.meaning.specs.Examples.{bare-name, shown-name, a-number}
+use Rattle.meaning.specs.Examples.{bare-name, shown-name, a-number, count-n, cycle-of-three}
 use Rattle.meaning.specs.Worked.{sheet, ticket-into, Says}
 
 -- from some drawers, with an empty buffer: a fault of the element at a place, inside some blocks
@@ -91,3 +91,10 @@ pub record Fault-cases : Type 0 where
   pub beyond : Faults sums unset (one-leaf (filtered (number-literal (pos (2 ^ 63 - 1))) (codes "plus") (a-number (pos 1)))) 32 (Some 3) 0 []
   -- text into an empty buffer
   pub no-room : Faults nothing unset (one-leaf (plain (codes "x"))) 33 None 0 []
+  -- what a fault leaves: a counter that found no room is not stored, a cycle is advanced, a long capture is not kept, and what was done before is
+  pub not-counted : run (sheet (count-n ∷ [])) nothing (ticket-into 0 0 ∷ []) unset .1 (name 0) .counter ≡ None
+  pub still-advanced : run (sheet (cycle-of-three ∷ [])) nothing (ticket-into 0 0 ∷ []) unset .1 (cycle-name 0) .position ≡ 1
+  pub not-kept : run (sheet (captures 257 ∷ [])) nothing (ticket-into 300 0 ∷ []) unset .1 (name 0) .variable ≡ None
+  pub done-before :
+    run (sheet (leaf 0 (assign 0 (record { value = number-literal (pos 5); filters = [] })) (leaf 1 (shown-name 1) done) ∷ [])) nothing (ticket-into 0 0 ∷ []) unset .1 (name 0) .variable ≡
+    Some (whole (pos 5))
