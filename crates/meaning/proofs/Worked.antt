@@ -19,6 +19,7 @@ use Rattle.meaning.specs.Rendering.{render, taken}
 use Rattle.meaning.specs.Calls.{perform}
 use Rattle.meaning.specs.FaultCases.{Fault-cases}
 use Rattle.meaning.specs.MoreCases.{More-cases}
+use Rattle.meaning.specs.ObjectCases.{Object-cases}
 use Rattle.meaning.specs.PageCases.{Page-cases}
 use Rattle.meaning.specs.Worked.{Cycles, Counters, Tables, Conditions, Windows, Visits, Pieces, Trail, Clashes, Worked-cases}
 
@@ -176,4 +177,20 @@ more-cases =
       last-columns = refl;
       first-columns = refl;
       mark-without-room = refl;
+    }
+
+pub object-cases : Object-cases
+unfolding naturalText wholeText wholeOf windowed sameText valueAt _andThen_ still emit append look alter aside find reach eval tested chained leaf-act gone-over opened around passes render taken perform
+object-cases =
+    record {
+      by-key = refl;
+      by-number = refl;
+      size = refl;
+      as-text = refl;
+      entries = refl;
+      pair-kept = refl;
+      has-key = refl;
+      has-number-as-key = refl;
+      values-are-no-keys = refl;
+      itself = refl;
     }

@@ -96,5 +96,5 @@ pub record Fault-cases : Type 0 where
   pub still-advanced : run (sheet (cycle-of-three ∷ [])) nothing (ticket-into 0 0 ∷ []) unset .1 (cycle-name 0) .position ≡ 1
   pub not-kept : run (sheet (captures 257 ∷ [])) nothing (ticket-into 300 0 ∷ []) unset .1 (name 0) .variable ≡ None
   pub done-before :
-    run (sheet (leaf 0 (assign 0 (record { value = number-literal (pos 5); filters = [] })) (leaf 1 (shown-name 1) done) ∷ [])) nothing (ticket-into 0 0 ∷ []) unset .1 (name 0) .variable ≡
-    Some (whole (pos 5))
+      run (sheet (leaf 0 (assign 0 (record { value = number-literal (pos 5); filters = [] })) (leaf 1 (shown-name 1) done) ∷ [])) nothing (ticket-into 0 0 ∷ []) unset .1 (name 0) .variable ≡
+      Some (whole (pos 5))

@@ -20,3 +20,4 @@ pub mod Reading
 pub mod FaultCases
 pub mod PageCases
 pub mod MoreCases
+pub mod ObjectCases

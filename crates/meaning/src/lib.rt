@@ -2,6 +2,7 @@
 ghost use Rattle.meaning.specs.FaultCases.{Fault-cases};
 ghost use Rattle.meaning.specs.Laws.{Changes-only-what-it-writes, Depends-only-on-what-it-reads, Without-a-clash-they-commute, Refused-calls-touch-nothing, Rendering-only-adds, Tickets-are-whole};
 ghost use Rattle.meaning.specs.MoreCases.{More-cases};
+ghost use Rattle.meaning.specs.ObjectCases.{Object-cases};
 ghost use Rattle.meaning.specs.Order.{Order-free};
 ghost use Rattle.meaning.specs.PageCases.{Page-cases};
 ghost use Rattle.meaning.specs.Reading.{Steps-agree, Rows-agree, Read-again-is-there};
@@ -20,6 +21,7 @@ pub fn worked_cases_stand() -> u8
     ensures faults { λ _. ⌜ Fault-cases ⌝ }
     ensures pages { λ _. ⌜ Page-cases ⌝ }
     ensures more { λ _. ⌜ More-cases ⌝ }
+    ensures objects { λ _. ⌜ Object-cases ⌝ }
 {
     0
 }
