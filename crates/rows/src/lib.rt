@@ -3,7 +3,4 @@
 pub mod numbers;
 mod place;
 pub mod row;
-pub mod search;
-#[cfg(test)]
-mod tests;
-pub mod window;
+pub mod search;pub mod window;
