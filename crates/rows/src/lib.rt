@@ -3,4 +3,5 @@
 pub mod numbers;
 mod place;
 pub mod row;
-pub mod search;pub mod window;
+pub mod search;
+pub mod window;
