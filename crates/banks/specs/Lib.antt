@@ -1,0 +1,11 @@
+pub mod Causes
+pub mod Operands
+pub mod Meaning
+pub mod Answers
+pub mod Joined
+pub mod Laws
+pub mod Lawful
+pub mod Sums
+pub mod Operations
+pub mod Phrases
+pub mod Fetched
