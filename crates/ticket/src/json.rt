@@ -4,7 +4,6 @@ use crate::cursor::Cursor;
 use crate::json::errors::Fault;
 use crate::json::errors::JsonError;
 use crate::json::tree::Json;
-use crate::json::tree::Kind;
 use crate::json::tree::Tree;
 use crate::json::tree::Want;
 use std::alloc::Global;
