@@ -7,6 +7,7 @@ use crate::json;
 use crate::json::errors::Fault;
 use crate::json::errors::FaultDebug;
 use crate::json::errors::JsonError;
+use crate::json::tree::Json;
 use crate::layout::LayoutError;
 use crate::layout::Unsaid;
 use crate::layout::lay_out;
@@ -33,12 +34,25 @@ pub(crate) enum Action {
     NotLaidOut(Unsaid),
     // `show`
     Show,
+    // `phrases JSON`
+    Phrases(TrayBytes),
+    // `filter NAME JSON [JSON]`
+    Filter(Filtering),
+}
+
+// A filter by name, its input and perhaps its argument.
+#[derive(Drop)]
+pub(crate) struct Filtering {
+    pub(crate) name: Vec<u8>,
+    pub(crate) input: Json,
+    pub(crate) argument: Option<Json>,
 }
 
 // Why a line is no action.
 #[derive(Clone, Copy, Debug)]
 pub(crate) enum LineFault {
     UnknownWord,
+    NoFilter,
     NoFileName,
     FileName,
     Unreadable,
@@ -50,6 +64,7 @@ impl LineFault {
     fn words(self) -> &'static str {
         match self {
             LineFault::UnknownWord => "no such action",
+            LineFault::NoFilter => "a filter name is wanted here",
             LineFault::NoFileName => "a file name is wanted here",
             LineFault::FileName => "a file name is not UTF-8",
             LineFault::Unreadable => "this file cannot be read",
@@ -163,6 +178,10 @@ fn read_line(rt: &LibcRuntime, line: &[u8]) -> Result<Option<Action>, LineError>
     } else if word == b"show" {
         end_line(cursor)?;
         Ok(Some(Action::Show))
+    } else if word == b"phrases" {
+        Ok(Some(read_phrases(rt.alloc(), cursor)?))
+    } else if word == b"filter" {
+        Ok(Some(read_filter(rt.alloc(), cursor)?))
     } else {
         Err(LineError::Bad(at, LineFault::UnknownWord))
     }
@@ -176,25 +195,76 @@ fn end_line(mut cursor: Cursor<'_>) -> Result<(), LineError> {
     }
 }
 
-fn read_host(heap: Global, cursor: Cursor<'_>) -> Result<Action, LineError> {
-    let from = cursor.at();
+// A fault of JSON that begins at `from`.
+fn json_fault(from: usize, e: JsonError) -> LineError {
+    match e {
+        JsonError::Memory => LineError::Memory,
+        JsonError::Bad(at, fault) => LineError::Bad(
+            from.saturating_add(at),
+            LineFault::Json(fault),
+        ),
+    }
+}
+
+// The bytes of a tray that holds the object, or what its records cannot say.
+fn read_object(heap: Global, cursor: Cursor<'_>) -> Result<Result<TrayBytes, Unsaid>, LineError> {
     let host = match json::read(heap, cursor.rest()) {
         Ok(host) => host,
-        Err(JsonError::Memory) => return Err(LineError::Memory),
-        Err(JsonError::Bad(at, fault)) => {
-            return Err(LineError::Bad(from.saturating_add(at), LineFault::Json(fault)));
-        }
+        Err(e) => return Err(json_fault(cursor.at(), e)),
     };
     match lay_out(heap, &host) {
         Ok(records) => {
             let records = spell_all(heap, records.as_slice())?;
-            Ok(Action::Open(TrayBytes {
+            Ok(Ok(TrayBytes {
                 records,
                 text: host.texts,
             }))
         }
         Err(LayoutError::Memory) => Err(LineError::Memory),
-        Err(LayoutError::Unsaid(what)) => Ok(Action::NotLaidOut(what)),
+        Err(LayoutError::Unsaid(what)) => Ok(Err(what)),
+    }
+}
+
+fn read_host(heap: Global, cursor: Cursor<'_>) -> Result<Action, LineError> {
+    match read_object(heap, cursor)? {
+        Ok(bytes) => Ok(Action::Open(bytes)),
+        Err(what) => Ok(Action::NotLaidOut(what)),
+    }
+}
+
+fn read_phrases(heap: Global, cursor: Cursor<'_>) -> Result<Action, LineError> {
+    match read_object(heap, cursor)? {
+        Ok(bytes) => Ok(Action::Phrases(bytes)),
+        Err(what) => Ok(Action::NotLaidOut(what)),
+    }
+}
+
+fn read_filter(heap: Global, mut cursor: Cursor<'_>) -> Result<Action, LineError> {
+    cursor.skip_blanks();
+    let at = cursor.at();
+    let word = cursor.word();
+    if word.is_empty() {
+        return Err(LineError::Bad(at, LineFault::NoFilter));
+    }
+    let name = Vec::from_slice(heap, word)?;
+    let input = read_operand(heap, &mut cursor)?;
+    cursor.skip_blanks();
+    let argument = match cursor.peek() {
+        Some(_) => Some(read_operand(heap, &mut cursor)?),
+        None => None,
+    };
+    end_line(cursor)?;
+    Ok(Action::Filter(Filtering {
+        name,
+        input,
+        argument,
+    }))
+}
+
+fn read_operand(heap: Global, cursor: &mut Cursor<'_>) -> Result<Json, LineError> {
+    match json::read_value(heap, cursor) {
+        Ok(json) => Ok(json),
+        Err(e) => Err(json_fault(0, e)),
     }
 }
 

@@ -1,6 +1,7 @@
 //! ticket JOB: does the actions of a job, which is read from the file JOB or from standard input.
 
 mod cursor;
+mod filter;
 mod job;
 mod json;
 mod layout;
