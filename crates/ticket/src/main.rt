@@ -9,8 +9,6 @@ mod quote;
 mod run;
 mod show;
 mod spelling;
-#[cfg(test)]
-mod tests;
 
 use crate::job::JobErrorError;
 use std::env;
