@@ -28,7 +28,7 @@ pub(crate) fn run(rt: &LibcRuntime, actions: &[Action]) -> io::Result<()> {
             },
             Action::NotLaidOut(what) => {
                 let words = what.words();
-                say(rt, "host not laid out: ", words)?;
+                say(rt, "not laid out: ", words)?;
             }
             Action::Show => match &tray {
                 Some(tray) => show(rt, tray)?,
