@@ -5,7 +5,6 @@ ghost use lib.ListN.{length};
 use crate::cursor::Cursor;
 use crate::json;
 use crate::json::errors::Fault;
-use crate::json::errors::FaultDebug;
 use crate::json::errors::JsonError;
 use crate::json::tree::Json;
 use crate::layout::LayoutError;
@@ -15,8 +14,6 @@ use crate::spelling::spell_all;
 use std::alloc::AllocError;
 use std::alloc::Global;
 use std::alloc::Refused;
-use std::error::Error;
-use std::fmt;
 use std::fs;
 
 // The bytes of a tray: its records, and the text that they cite.
@@ -49,7 +46,7 @@ pub(crate) struct Filtering {
 }
 
 // Why a line is no action.
-#[derive(Clone, Copy, Debug)]
+#[derive(Clone, Copy)]
 pub(crate) enum LineFault {
     UnknownWord,
     NoFilter,
@@ -61,7 +58,7 @@ pub(crate) enum LineFault {
 }
 
 impl LineFault {
-    fn words(self) -> &'static str {
+    pub(crate) fn words(self) -> &'static str {
         match self {
             LineFault::UnknownWord => "no such action",
             LineFault::NoFilter => "a filter name is wanted here",
@@ -88,7 +85,7 @@ pub(crate) impl From<AllocError> for LineError as LineErrorFromAlloc {
 }
 
 // Where a job stops: its line and the place in it, both from 1; or want of memory.
-#[derive(Clone, Copy, Debug)]
+#[derive(Clone, Copy)]
 pub(crate) enum JobError {
     Memory,
     Bad {
@@ -103,24 +100,6 @@ pub(crate) impl<T: Drop> From<Refused<T>> for JobError as JobErrorFromRefused {
         JobError::Memory
     }
 }
-
-pub(crate) impl fmt::Display for JobError as JobErrorDisplay {
-    fn fmt<W: fmt::Write>(&self, f: &mut fmt::Formatter<W>) -> fmt::Result {
-        match self {
-            JobError::Memory => write!(f, "no memory"),
-            JobError::Bad {
-                line,
-                column,
-                fault,
-            } => {
-                let words = fault.words();
-                write!(f, "line {line}, column {column}: {words}")
-            }
-        }
-    }
-}
-
-pub(crate) impl Error for JobError as JobErrorError {}
 
 // Reads the actions of `job` into `actions`, up to the first line that is none.
 pub(crate) fn read_job(
