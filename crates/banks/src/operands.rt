@@ -4,6 +4,9 @@ ghost use lib.ListN.{length};
 ghost use Rattle.std.specs.Options.{Cases};
 ghost use Rattle.banks.specs.Operands.{textOf};
 
+// How many bytes a text may have.
+const LONGEST: usize = 256;
+
 /// A text of at most 256 bytes.
 #[derive(Clone, Copy)]
 pub struct Short<'a> {
@@ -24,7 +27,7 @@ impl<'a> Short<'a> {
     pub fn new(bytes: &'a [u8]) -> Option<Short<'a>>
         ensures { λ r. ⌜ Cases r (256 < length (now (bytes .entry))) (λ s. textOf s ≡ now (bytes .entry)) ⌝ }
     {
-        if bytes.len() <= 256 {
+        if bytes.len() <= LONGEST {
             Some(Short { bytes })
         } else {
             None
@@ -36,10 +39,10 @@ impl<'a> Short<'a> {
         ensures value { λ r. ⌜ now r ≡ textOf (self .entry) ⌝ }
         ensures short { λ r. ⌜ length (now r) ≤ 256 ⌝ }
     {
-        if self.bytes.len() <= 256 {
+        if self.bytes.len() <= LONGEST {
             self.bytes
         } else {
-            &self.bytes[0..256]
+            &self.bytes[0..LONGEST]
         }
     }
 }

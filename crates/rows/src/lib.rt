@@ -4,6 +4,4 @@ pub mod numbers;
 mod place;
 pub mod row;
 pub mod search;
-#[cfg(test)]
-mod tests;
 pub mod window;

@@ -5,8 +5,8 @@ ghost use lib.ListN.{length};
 use crate::cursor::Cursor;
 use crate::json;
 use crate::json::errors::Fault;
-use crate::json::errors::FaultDebug;
 use crate::json::errors::JsonError;
+use crate::json::tree::Json;
 use crate::layout::LayoutError;
 use crate::layout::Unsaid;
 use crate::layout::lay_out;
@@ -14,8 +14,6 @@ use crate::spelling::spell_all;
 use std::alloc::AllocError;
 use std::alloc::Global;
 use std::alloc::Refused;
-use std::error::Error;
-use std::fmt;
 use std::fs;
 
 // The bytes of a tray: its records, and the text that they cite.
@@ -33,12 +31,25 @@ pub(crate) enum Action {
     NotLaidOut(Unsaid),
     // `show`
     Show,
+    // `phrases JSON`
+    Phrases(TrayBytes),
+    // `filter NAME JSON [JSON]`
+    Filter(Filtering),
+}
+
+// A filter by name, its input and perhaps its argument.
+#[derive(Drop)]
+pub(crate) struct Filtering {
+    pub(crate) name: Vec<u8>,
+    pub(crate) input: Json,
+    pub(crate) argument: Option<Json>,
 }
 
 // Why a line is no action.
-#[derive(Clone, Copy, Debug)]
+#[derive(Clone, Copy)]
 pub(crate) enum LineFault {
     UnknownWord,
+    NoFilter,
     NoFileName,
     FileName,
     Unreadable,
@@ -47,9 +58,10 @@ pub(crate) enum LineFault {
 }
 
 impl LineFault {
-    fn words(self) -> &'static str {
+    pub(crate) fn words(self) -> &'static str {
         match self {
             LineFault::UnknownWord => "no such action",
+            LineFault::NoFilter => "a filter name is wanted here",
             LineFault::NoFileName => "a file name is wanted here",
             LineFault::FileName => "a file name is not UTF-8",
             LineFault::Unreadable => "this file cannot be read",
@@ -73,7 +85,7 @@ pub(crate) impl From<AllocError> for LineError as LineErrorFromAlloc {
 }
 
 // Where a job stops: its line and the place in it, both from 1; or want of memory.
-#[derive(Clone, Copy, Debug)]
+#[derive(Clone, Copy)]
 pub(crate) enum JobError {
     Memory,
     Bad {
@@ -88,24 +100,6 @@ pub(crate) impl<T: Drop> From<Refused<T>> for JobError as JobErrorFromRefused {
         JobError::Memory
     }
 }
-
-pub(crate) impl fmt::Display for JobError as JobErrorDisplay {
-    fn fmt<W: fmt::Write>(&self, f: &mut fmt::Formatter<W>) -> fmt::Result {
-        match self {
-            JobError::Memory => write!(f, "no memory"),
-            JobError::Bad {
-                line,
-                column,
-                fault,
-            } => {
-                let words = fault.words();
-                write!(f, "line {line}, column {column}: {words}")
-            }
-        }
-    }
-}
-
-pub(crate) impl Error for JobError as JobErrorError {}
 
 // Reads the actions of `job` into `actions`, up to the first line that is none.
 pub(crate) fn read_job(
@@ -163,6 +157,10 @@ fn read_line(rt: &LibcRuntime, line: &[u8]) -> Result<Option<Action>, LineError>
     } else if word == b"show" {
         end_line(cursor)?;
         Ok(Some(Action::Show))
+    } else if word == b"phrases" {
+        Ok(Some(read_phrases(rt.alloc(), cursor)?))
+    } else if word == b"filter" {
+        Ok(Some(read_filter(rt.alloc(), cursor)?))
     } else {
         Err(LineError::Bad(at, LineFault::UnknownWord))
     }
@@ -176,25 +174,76 @@ fn end_line(mut cursor: Cursor<'_>) -> Result<(), LineError> {
     }
 }
 
-fn read_host(heap: Global, cursor: Cursor<'_>) -> Result<Action, LineError> {
-    let from = cursor.at();
+// A fault of JSON that begins at `from`.
+fn json_fault(from: usize, e: JsonError) -> LineError {
+    match e {
+        JsonError::Memory => LineError::Memory,
+        JsonError::Bad(at, fault) => LineError::Bad(
+            from.saturating_add(at),
+            LineFault::Json(fault),
+        ),
+    }
+}
+
+// The bytes of a tray that holds the object, or what its records cannot say.
+fn read_object(heap: Global, cursor: Cursor<'_>) -> Result<Result<TrayBytes, Unsaid>, LineError> {
     let host = match json::read(heap, cursor.rest()) {
         Ok(host) => host,
-        Err(JsonError::Memory) => return Err(LineError::Memory),
-        Err(JsonError::Bad(at, fault)) => {
-            return Err(LineError::Bad(from.saturating_add(at), LineFault::Json(fault)));
-        }
+        Err(e) => return Err(json_fault(cursor.at(), e)),
     };
     match lay_out(heap, &host) {
         Ok(records) => {
             let records = spell_all(heap, records.as_slice())?;
-            Ok(Action::Open(TrayBytes {
+            Ok(Ok(TrayBytes {
                 records,
                 text: host.texts,
             }))
         }
         Err(LayoutError::Memory) => Err(LineError::Memory),
-        Err(LayoutError::Unsaid(what)) => Ok(Action::NotLaidOut(what)),
+        Err(LayoutError::Unsaid(what)) => Ok(Err(what)),
+    }
+}
+
+fn read_host(heap: Global, cursor: Cursor<'_>) -> Result<Action, LineError> {
+    match read_object(heap, cursor)? {
+        Ok(bytes) => Ok(Action::Open(bytes)),
+        Err(what) => Ok(Action::NotLaidOut(what)),
+    }
+}
+
+fn read_phrases(heap: Global, cursor: Cursor<'_>) -> Result<Action, LineError> {
+    match read_object(heap, cursor)? {
+        Ok(bytes) => Ok(Action::Phrases(bytes)),
+        Err(what) => Ok(Action::NotLaidOut(what)),
+    }
+}
+
+fn read_filter(heap: Global, mut cursor: Cursor<'_>) -> Result<Action, LineError> {
+    cursor.skip_blanks();
+    let at = cursor.at();
+    let word = cursor.word();
+    if word.is_empty() {
+        return Err(LineError::Bad(at, LineFault::NoFilter));
+    }
+    let name = Vec::from_slice(heap, word)?;
+    let input = read_operand(heap, &mut cursor)?;
+    cursor.skip_blanks();
+    let argument = match cursor.peek() {
+        Some(_) => Some(read_operand(heap, &mut cursor)?),
+        None => None,
+    };
+    end_line(cursor)?;
+    Ok(Action::Filter(Filtering {
+        name,
+        input,
+        argument,
+    }))
+}
+
+fn read_operand(heap: Global, cursor: &mut Cursor<'_>) -> Result<Json, LineError> {
+    match json::read_value(heap, cursor) {
+        Ok(json) => Ok(json),
+        Err(e) => Err(json_fault(0, e)),
     }
 }
 

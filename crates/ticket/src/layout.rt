@@ -3,7 +3,6 @@
 use crate::json::tree::Json;
 use crate::json::tree::Kind;
 use crate::json::tree::Node;
-use std::alloc::AllocError;
 use std::alloc::Global;
 use std::alloc::Refused;
 use tray::records::Record;
@@ -32,12 +31,6 @@ impl Unsaid {
 pub(crate) enum LayoutError {
     Memory,
     Unsaid(Unsaid),
-}
-
-pub(crate) impl From<AllocError> for LayoutError as LayoutErrorFromAlloc {
-    fn from(_e: AllocError) -> LayoutError {
-        LayoutError::Memory
-    }
 }
 
 pub(crate) impl<T: Drop> From<Refused<T>> for LayoutError as LayoutErrorFromRefused {

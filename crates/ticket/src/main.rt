@@ -1,6 +1,7 @@
 //! ticket JOB: does the actions of a job, which is read from the file JOB or from standard input.
 
 mod cursor;
+mod filter;
 mod job;
 mod json;
 mod layout;
@@ -8,10 +9,8 @@ mod quote;
 mod run;
 mod show;
 mod spelling;
-#[cfg(test)]
-mod tests;
 
-use crate::job::JobErrorError;
+use crate::job::JobError;
 use std::env;
 use std::error::AnyError;
 use std::fs;
@@ -32,8 +31,21 @@ fn ticket(rt: &LibcRuntime) -> Result<(), AnyError> {
     let mut actions = Vec::new(rt.alloc());
     let read = job::read_job(rt, job.as_slice(), &mut actions);
     run::run(rt, actions.as_slice())?;
-    read?;
-    Ok(())
+    match read {
+        Ok(()) => Ok(()),
+        Err(JobError::Memory) => Err("no memory".into()),
+        Err(
+            JobError::Bad {
+                line,
+                column,
+                fault,
+            },
+        ) => {
+            let words = fault.words();
+            let message = format!(rt.alloc(), "line {line}, column {column}: {words}")?;
+            Err(message.into())
+        }
+    }
 }
 
 fn read_input(rt: &LibcRuntime) -> io::Result<Vec<u8>> {

@@ -1,5 +1,15 @@
+//! The calls on the tray that is open.
+
+use crate::calls::laid;
+use crate::calls::maybe;
+use crate::words::Wrong;
+use crate::words::WrongFromAlloc;
+use crate::words::number;
+use crate::words::size;
+use crate::words::text;
 use equality::equal;
-use std::test::*;
+use std::alloc::Global;
+use std::str::SplitWhitespace;
 use texts::measure::text_len;
 use texts::write::write_text;
 use tray::trays::Tray;
@@ -8,172 +18,63 @@ use values::steps::Found;
 use values::steps::Step;
 use values::steps::follow;
 
-const TEXT: &[u8; 6] = b"lnoabx";
-
-// l is an array of the smallest and the largest number and two equal objects, {a: true, b: nil} and {b: nil, a: true}; n is nil.
-const BYTES: [u8; 75] = [
-    5,
-    1,
-    0,
-    2,
-    0,
-    3,
-    0,
-    0,
-    1,
-    0,
-    4,
-    5,
-    0,
-    4,
-    0,
-    3,
-    1,
-    0,
-    1,
-    0,
-    0,
-    2,
-    0,
-    0,
-    0,
-    0,
-    0,
-    0,
-    0,
-    128,
-    2,
-    255,
-    255,
-    255,
-    255,
-    255,
-    255,
-    255,
-    127,
-    5,
-    9,
-    0,
-    2,
-    0,
-    5,
-    13,
-    0,
-    2,
-    0,
-    3,
-    3,
-    0,
-    1,
-    0,
-    1,
-    1,
-    3,
-    4,
-    0,
-    1,
-    0,
-    0,
-    3,
-    4,
-    0,
-    1,
-    0,
-    0,
-    3,
-    3,
-    0,
-    1,
-    0,
-    1,
-    1,
-];
-
-#[test]
-fn numbers(rt: LibcRuntime) -> Result<(), Fail> {
-    let tray = Tray::open(rt.alloc(), &BYTES, TEXT).ok().ok_or("refused")?;
-    let mut out = [b'x'; 20];
-    check_eq(write_text(&tray, 5, &mut out), Some(20))?;
-    check_eq(out, *b"-9223372036854775808")?;
-    check_eq(write_text(&tray, 6, &mut out), Some(19))?;
-    check_eq(out, *b"92233720368547758078")
+// Each call names a record first.
+pub(crate) fn answer(
+    heap: Global,
+    tray: &Tray,
+    call: &str,
+    words: &mut SplitWhitespace<'_>,
+) -> Result<String, Wrong> {
+    let record = size(words)?;
+    match call {
+        "length" => sized(heap, text_len(tray, record, size(words)?)),
+        "text" => laid_text(heap, tray, record, size(words)?),
+        "find" => sized(heap, find(tray, record, text(words)?)),
+        "index" => came(heap, index(tray, record, number(words)?)),
+        "name" => came(heap, named(tray, record, text(words)?)),
+        "equal" => yes_or_no(heap, equal(tray, record, size(words)?)),
+        _ => Err(Wrong::Case),
+    }
 }
 
-#[test]
-fn text(rt: LibcRuntime) -> Result<(), Fail> {
-    let tray = Tray::open(rt.alloc(), &BYTES, TEXT).ok().ok_or("refused")?;
-    check_eq(text_len(&tray, 2, 51), Some(51))?;
-    let mut out = [b'x'; 53];
-    check_eq(write_text(&tray, 2, &mut out), Some(51))?;
-    check_eq(
-        out,
-        *b"-92233720368547758089223372036854775807atruebbatruexx",
-    )
+fn laid_text(heap: Global, tray: &Tray, record: usize, room: usize) -> Result<String, Wrong> {
+    let mut out = vec![in heap; b'x'; room]?;
+    let end = write_text(tray, record, out.as_mut_slice());
+    laid(heap, end, out.as_slice())
 }
 
-#[test]
-fn no_room(rt: LibcRuntime) -> Result<(), Fail> {
-    let tray = Tray::open(rt.alloc(), &BYTES, TEXT).ok().ok_or("refused")?;
-    check_eq(text_len(&tray, 2, 50), None)?;
-    let mut short = [b'x'; 50];
-    check_eq(write_text(&tray, 2, &mut short), None)?;
-    check_eq(short, [b'x'; 50])
+fn number_step(n: i64) -> Step<'static> {
+    Step::Number(n)
 }
 
-// A record by its number, a size by 500 and more, nothing by 1000.
-fn place(found: Option<Found>) -> usize {
+fn index(tray: &Tray, record: usize, n: i64) -> Option<Found> {
+    let step = number_step(n);
+    follow(tray, record, step)
+}
+
+fn named(tray: &Tray, record: usize, name: &[u8]) -> Option<Found> {
+    follow(tray, record, Step::Name(name))
+}
+
+fn yes_or_no(heap: Global, answer: bool) -> Result<String, Wrong> {
+    if answer {
+        Ok(String::from_str(heap, "yes")?)
+    } else {
+        Ok(String::from_str(heap, "no")?)
+    }
+}
+
+fn sized(heap: Global, n: Option<usize>) -> Result<String, Wrong> {
+    match n {
+        Some(n) => Ok(format!(heap, "{n}")?),
+        None => maybe(heap, None),
+    }
+}
+
+fn came(heap: Global, found: Option<Found>) -> Result<String, Wrong> {
     match found {
-        Some(Found::Record(i)) => i,
-        Some(Found::Size(n)) => n.saturating_add(500),
-        None => 1000,
+        Some(Found::Record(i)) => Ok(format!(heap, "record {i}")?),
+        Some(Found::Size(n)) => Ok(format!(heap, "size {n}")?),
+        None => maybe(heap, None),
     }
-}
-
-#[test]
-fn indexes(rt: LibcRuntime) -> Result<(), Fail> {
-    let tray = Tray::open(rt.alloc(), &BYTES, TEXT).ok().ok_or("refused")?;
-    for (index, expected) in [
-        (0i64, 5usize),
-        (3, 8),
-        (4, 1000),
-        (-1, 8),
-        (-4, 5),
-        (-5, 1000),
-        (i64::MIN, 1000),
-    ] {
-        check_eq(place(follow(&tray, 2, Step::Number(index))), expected)?;
-    }
-    Ok(())
-}
-
-#[test]
-fn names(rt: LibcRuntime) -> Result<(), Fail> {
-    let tray = Tray::open(rt.alloc(), &BYTES, TEXT).ok().ok_or("refused")?;
-    check_eq(find(&tray, 0, b"l"), Some(2))?;
-    check_eq(place(follow(&tray, 8, Step::Name(b"a"))), 16)?;
-    for (record, size) in [
-        (2usize, 504usize),
-        (7, 502),
-        (4, 1000),
-        (5, 1000),
-        (99, 1000),
-    ] {
-        check_eq(place(follow(&tray, record, Step::Name(b"size"))), size)?;
-    }
-    Ok(())
-}
-
-#[test]
-fn equality(rt: LibcRuntime) -> Result<(), Fail> {
-    let tray = Tray::open(rt.alloc(), &BYTES, TEXT).ok().ok_or("refused")?;
-    for (a, b, same) in [
-        (7usize, 8usize, true),
-        (2, 2, true),
-        (5, 6, false),
-        (4, 99, true),
-        (4, 0, false),
-    ] {
-        check_eq(equal(&tray, a, b), same)?;
-    }
-    Ok(())
 }

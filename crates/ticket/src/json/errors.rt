@@ -3,7 +3,7 @@
 use std::alloc::AllocError;
 use std::alloc::Refused;
 
-#[derive(Clone, Copy, Debug)]
+#[derive(Clone, Copy)]
 pub(crate) enum Fault {
     Ended,
     NotJson,

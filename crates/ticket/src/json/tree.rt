@@ -30,6 +30,15 @@ pub(crate) struct Json {
     pub(crate) texts: Vec<u8>,
 }
 
+impl Json {
+    pub(crate) fn is_object(&self) -> bool {
+        match self.nodes.first() {
+            Some(node) => matches!(node.kind, Kind::Object(_)),
+            None => false,
+        }
+    }
+}
+
 #[derive(Clone, Copy)]
 pub(crate) enum Token {
     OpenArray,
@@ -101,9 +110,9 @@ impl Tree {
     // Takes the token at the place `at`, and tells what may come next.
     pub(crate) fn place(&mut self, at: usize, want: Want, token: Token) -> Result<Want, JsonError> {
         match (want, token) {
-            (Want::Value | Want::ItemOrEnd, Token::OpenArray) => self.begin(at, false),
-            (Want::Value | Want::ItemOrEnd, Token::OpenObject) => self.begin(at, true),
-            (Want::Value | Want::ItemOrEnd, Token::Leaf(kind)) => self.leaf(at, kind),
+            (Want::Value | Want::ItemOrEnd, Token::OpenArray) => self.begin(false),
+            (Want::Value | Want::ItemOrEnd, Token::OpenObject) => self.begin(true),
+            (Want::Value | Want::ItemOrEnd, Token::Leaf(kind)) => self.leaf(kind),
             (Want::KeyOrEnd | Want::Key, Token::Leaf(Kind::Text(place, len))) => self.key(
                 place,
                 len,
@@ -126,10 +135,7 @@ impl Tree {
         Ok(node)
     }
 
-    fn begin(&mut self, at: usize, is_object: bool) -> Result<Want, JsonError> {
-        if self.nodes.is_empty() && !is_object {
-            return Err(JsonError::Bad(at, Fault::NotObject));
-        }
+    fn begin(&mut self, is_object: bool) -> Result<Want, JsonError> {
         let node = self.push(Kind::Nil)?;
         self.open
             .push(Open {
@@ -144,10 +150,7 @@ impl Tree {
         })
     }
 
-    fn leaf(&mut self, at: usize, kind: Kind) -> Result<Want, JsonError> {
-        if self.nodes.is_empty() {
-            return Err(JsonError::Bad(at, Fault::NotObject));
-        }
+    fn leaf(&mut self, kind: Kind) -> Result<Want, JsonError> {
         self.push(kind)?;
         Ok(self.counted())
     }
