@@ -46,14 +46,14 @@ module _ (sheet : Sheet) (bank : Meaning) where
   act-confined (sets n v) h g = andThen-confined (alter-confined (name n) _ (g (name n) (inl refl))) (λ _. quiet-confined _)
   act-confined (renders t w k) h g = render-confined _ t [] h g
 
-  -- (i) a call changes only what it writes
+  -- a call changes only what it writes
   pub keeps : (c : Call) (d : Drawers) (t : Thing) → ¬ (In t (call-writes sheet c)) → perform sheet bank c d .1 t ≡ d t
   unfolding perform
   keeps c d =
       kept-after (λ t. In t (call-writes sheet c)) d (act sheet bank (judged sheet c) d [])
       (act-confined {X = λ _. Unit {0}} (judged sheet c) (λ _ _. tt) (λ _ i. i) .tied .frame d [])
 
-  -- (ii) a call depends only on what it reads, and drawers that agree on more than that agree there afterwards
+  -- a call depends only on what it reads, and drawers that agree on more than that agree there afterwards
   pub agrees : (X : Thing → Type 0) (c : Call) (d e : Drawers) → Covers X (call-reads sheet c) → Agree X d e →
       (perform sheet bank c d .0 ≡ perform sheet bank c e .0) × Agree X (perform sheet bank c d .1) (perform sheet bank c e .1)
   unfolding perform
@@ -68,7 +68,7 @@ module _ (sheet : Sheet) (bank : Meaning) where
       (λ t i j. n (t, j, in-left t (call-reads sheet b) (call-writes sheet b) i))
       (keeps a d)
 
-  -- (iii)
+  -- what either order gives and leaves
   pub record Commutes (a b : Call) (d : Drawers) : Type 0 where
     pub first : perform sheet bank a (perform sheet bank b d .1) .0 ≡ perform sheet bank a d .0
     pub second : perform sheet bank b (perform sheet bank a d .1) .0 ≡ perform sheet bank b d .0
@@ -97,24 +97,3 @@ module _ (sheet : Sheet) (bank : Meaning) where
           λ j. n (inl (t, i, in-right t (call-reads sheet b) (call-writes sheet b) j)) in
           ba .1 t free ∙ sym (keeps b (perform sheet bank a d .1) t free)
       at-thing t (no f) = keeps a (perform sheet bank b d .1) t f ∙ sym (ab .1 t f)
-
--- whether two calls clash can be computed
-meet-dec : (xs ys : List Thing) → Dec (Meet xs ys)
-meet-dec [] ys = no (λ m. m .1)
-meet-dec (x ∷ xs) ys = either (in-dec x ys) (meet-dec xs ys)
-  where
-    either : Dec (In x ys) → Dec (Meet xs ys) → Dec (Meet (x ∷ xs) ys)
-    either (yes i) h = yes (x, inl refl, i)
-    either (no n) (yes m) = yes (m .0, inr (m .1), m .2)
-    either (no n) (no m) = no (λ q. elim (q .1) [ inl e ↦ n (subst (λ (t : Thing). In t ys) e (q .2)) | inr i ↦ m (q .0, i, q .2) ])
-
-pub clash-dec : (sheet : Sheet) (a b : Call) → Dec (Clash sheet a b)
-clash-dec sheet a b =
-    either
-    (meet-dec (call-writes sheet a) (call-reads sheet b ++ call-writes sheet b))
-    (meet-dec (call-writes sheet b) (call-reads sheet a ++ call-writes sheet a))
-  where
-    either : {P Q : Type 0} → Dec P → Dec Q → Dec (P ⊎ Q)
-    either (yes p) q = yes (inl p)
-    either (no n) (yes q) = yes (inr q)
-    either (no n) (no m) = no (λ s. elim s [ inl p ↦ n p | inr q ↦ m q ])
