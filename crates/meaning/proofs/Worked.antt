@@ -169,6 +169,7 @@ more-cases =
       absent-is-false = refl;
       continues = refl;
       breaks = refl;
+      breaks-out-of-if = refl;
       breaks-out-of-capture = refl;
       breaks-out-of-else = refl;
       breaks-at-the-end = refl;

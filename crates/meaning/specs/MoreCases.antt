@@ -98,6 +98,9 @@ pub record More-cases : Type 0 where
   -- {% for i in l %}{{ i }}{% continue %}!{% endfor %}.
   pub continues : Says (over-l (leaf 1 (shown-name 3) (leaf 2 continue (leaf 3 (plain (codes "!")) done))) dot) "abc."
   pub breaks : Says (over-l (leaf 1 (shown-name 3) (leaf 2 break (leaf 3 (plain (codes "!")) done))) dot) "a."
+  -- {% for i in l %}{% if true %}{% break %}{% endif %}!{% endfor %}.
+  pub breaks-out-of-if :
+      Says (over-l (block 1 if-block (arm (holds (only (exists (boolean-literal true)))) (leaf 2 break done) no-arms) (leaf 3 (plain (codes "!")) done)) dot) "."
   -- {% for i in l %}{% capture n %}x{% break %}y{% endcapture %}!{% endfor %}{{ n }}: the capture that is left still stores
   pub breaks-out-of-capture :
       Says (over-l (block 1 (capture-block 0) (arm always (leaf 2 (plain (codes "x")) (leaf 3 break (leaf 4 (plain (codes "y")) done))) no-arms) (leaf 5 (plain (codes "!")) done)) (leaf 6 (shown-name 0) done)) "x"
