@@ -17,7 +17,7 @@ use Rattle.tray.specs.Parts.{sameText}
 use Rattle.tray.specs.Sound.{at, Behind, KeysText, Sound}
 use Rattle.values.specs.Value.{Value, find}
 use Rattle.values.specs.Value as tree
-use Rattle.values.specs.Found.{placeOf}
+use Rattle.values.specs.Numbers.{placeOf}
 use Rattle.values.specs.Meaning.{itemsFrom, entriesFrom, shape, keyAt, valueAt}
 use Rattle.values.specs.RowsOf.{stepping, itemsOf, pairsOf}
 use Rattle.values.specs.Steps.{indexed, itemNamed, intoItems, sized, orElse, keyed, itemCount, entryCount, stepText, stepped as tree-stepped}

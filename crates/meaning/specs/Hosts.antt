@@ -14,7 +14,7 @@ use Rattle.tray.specs.declared.records.Record.{Record}
 use Rattle.tray.specs.declared.records.Record.the-variants.{Nil, Boolean, Whole, Text, Array, Object}
 use Rattle.tray.specs.Parts.{cut, sameText}
 use Rattle.tray.specs.Sound.{at}
-use Rattle.values.specs.Found.{placeOf}
+use Rattle.values.specs.Numbers.{placeOf}
 use Rattle.values.specs.Meaning.{valueAt, keyAt}
 use Rattle.values.specs.RowsOf.{paired, stepping}
 use Rattle.values.specs.Value.{Value}

@@ -19,7 +19,8 @@ use Rattle.tray.specs.Parts.{keyOf, sameText}
 use Rattle.tray.specs.Sound.{at, Behind, KeysText, isText}
 use Rattle.values.specs.Value.{Value, text, find}
 use Rattle.values.specs.Meaning.{itemsFrom, entriesFrom, shape, keyAt, valueAt}
-use Rattle.values.specs.RowsOf.{stepping, listed, paired, pairsListed, itemsOf, pairsOf}
+use Rattle.values.specs.Numbers.{entryNumber}
+use Rattle.values.specs.RowsOf.{stepping, listed, paired, pairsListed, itemsOf, pairsOf, itemsRow, pairsRow}
 use Rattle.values.proofs.Unfolds.{stands}
 
 pub length-stepping : {X : Type 0} (g : ℕ → X) (i d n : ℕ) → length (map g (stepping i d n)) ≡ n
@@ -96,22 +97,49 @@ module _ (rs : List Record) (tx : List ℕ) (b : Behind rs) (i : ℕ) where
       go (Array f n) y = refl
       go (Object f n) y = absurd (y f n refl)
 
--- the first key that is the same finds its value
-find-from : {X : Type 0} (q : List ℕ) (key : ℕ → List ℕ) (f : ℕ → Value) (g : ℕ → X) (p : X → Bool) → ((i : ℕ) → p (g i) ≡ sameText q (key i)) → (first m i n : ℕ) → i ≡ first + 2 * m → mapped (λ j. f (first + 2 * j + 1)) (firstFrom p m (map g (stepping i 2 n))) ≡ find q (entriesFrom key f i n)
-find-from q key f g p e first m i zero h = refl
-find-from q key f g p e first m i (suc n) h =
-    let here : Some (f (first + 2 * m + 1)) ≡ Some (f (i + 1)) = ap (λ x. Some (f (x + 1))) (sym h) in
-    let on = find-from q key f g p e first (m + 1) (i + 2) n (omega arith) in
-    ap (λ b. mapped (λ j. f (first + 2 * j + 1)) (cond b (Some m) (firstFrom p (m + 1) (map g (stepping (i + 2) 2 n))))) (e i) ∙ both (sameText q (key i)) (firstFrom p (m + 1) (map g (stepping (i + 2) 2 n))) here on
+-- the first key that is the same, by the number of its value's record
+number-from : {X : Type 0} (q : List ℕ) (key : ℕ → List ℕ) (g : ℕ → X) (p : X → Bool) → ((i : ℕ) → p (g i) ≡ sameText q (key i)) → (first m i n : ℕ) → i ≡ first + 2 * m → mapped (λ j. first + 2 * j + 1) (firstFrom p m (map g (stepping i 2 n))) ≡ entryNumber key q i n
+number-from q key g p e first m i zero h = refl
+number-from q key g p e first m i (suc n) h =
+    let here : Some (first + 2 * m + 1) ≡ Some (i + 1) = ap (λ x. Some (x + 1)) (sym h) in
+    let on = number-from q key g p e first (m + 1) (i + 2) n (omega arith) in
+    ap (λ b. mapped (λ j. first + 2 * j + 1) (cond b (Some m) (firstFrom p (m + 1) (map g (stepping (i + 2) 2 n))))) (e i)
+    ∙ both (sameText q (key i)) (firstFrom p (m + 1) (map g (stepping (i + 2) 2 n))) here on
   where
-    both : (b : Bool) (o : Option ℕ) {x y : Option Value} → mapped (λ j. f (first + 2 * j + 1)) (Some m) ≡ x → mapped (λ j. f (first + 2 * j + 1)) o ≡ y → mapped (λ j. f (first + 2 * j + 1)) (cond b (Some m) o) ≡ cond b x y
+    both : (b : Bool) (o : Option ℕ) {x y : Option ℕ} → mapped (λ j. first + 2 * j + 1) (Some m) ≡ x → mapped (λ j. first + 2 * j + 1) o ≡ y → mapped (λ j. first + 2 * j + 1) (cond b (Some m) o) ≡ cond b x y
     both true o s t = s
     both false o s t = t
 
-pub find-first : {X : Type 0} (q : List ℕ) (key : ℕ → List ℕ) (f : ℕ → Value) (g : ℕ → X) (p : X → Bool) → ((i : ℕ) → p (g i) ≡ sameText q (key i)) → (first n : ℕ) → mapped (λ j. f (first + 2 * j + 1)) (firstFrom p 0 (map g (stepping first 2 n))) ≡ find q (entriesFrom key f first n)
-find-first q key f g p e first n = find-from q key f g p e first 0 first n (omega arith)
+pub number-first : {X : Type 0} (q : List ℕ) (key : ℕ → List ℕ) (g : ℕ → X) (p : X → Bool) → ((i : ℕ) → p (g i) ≡ sameText q (key i)) → (first n : ℕ) → mapped (λ j. first + 2 * j + 1) (firstFrom p 0 (map g (stepping first 2 n))) ≡ entryNumber key q first n
+number-first q key g p e first n = number-from q key g p e first 0 first n (omega arith)
+
+-- and by that value
+pub number-value : (q : List ℕ) (key : ℕ → List ℕ) (f : ℕ → Value) (i n : ℕ) → mapped f (entryNumber key q i n) ≡ find q (entriesFrom key f i n)
+number-value q key f i zero = refl
+number-value q key f i (suc n) = both (sameText q (key i)) (entryNumber key q (i + 2) n) (number-value q key f (i + 2) n)
+  where
+    both : (b : Bool) (o : Option ℕ) {y : Option Value} → mapped f o ≡ y → mapped f (cond b (Some (i + 1)) o) ≡ cond b (Some (f (i + 1))) y
+    both true o t = refl
+    both false o t = t
 
 -- an item that is there has a place below the count
 pub place-below : {X : Type 0} (g : ℕ → X) (i d n k : ℕ) (x : X) → nth (map g (stepping i d n)) k ≡ Some x → k < n
 place-below g i d n k x e =
     ⊎-elim (λ l. l) (λ l. let z : None ≡ Some x = sym (nth-past g i d n k l) ∙ e in let o : _≡_ {A = ℕ} 0 1 = cc in absurd (omega arith)) (cases-lt k n)
+
+-- no other record is a row
+pub no-items-row : (r : Record) → (r ≡ Nil → ⊥) → ((f n : ℕ) → r ≡ Array f n → ⊥) → None ≡ itemsRow r
+no-items-row Nil x y = absurd (x refl)
+no-items-row (Boolean b) x y = refl
+no-items-row (Whole z) x y = refl
+no-items-row (Text p n) x y = refl
+no-items-row (Array f n) x y = absurd (y f n refl)
+no-items-row (Object f n) x y = refl
+
+pub no-pairs-row : (r : Record) → ((f n : ℕ) → r ≡ Object f n → ⊥) → None ≡ pairsRow r
+no-pairs-row Nil y = refl
+no-pairs-row (Boolean b) y = refl
+no-pairs-row (Whole z) y = refl
+no-pairs-row (Text p n) y = refl
+no-pairs-row (Array f n) y = refl
+no-pairs-row (Object f n) y = absurd (y f n refl)

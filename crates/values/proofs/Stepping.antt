@@ -16,9 +16,13 @@ use Rattle.tray.specs.declared.records.Record.{Record}
 use Rattle.tray.specs.declared.records.Record.the-variants.{Nil, Boolean, Whole, Text, Array, Object}
 use Rattle.tray.specs.Parts.{sameText}
 use Rattle.values.specs.Value.{Value, whole, Items, Entries, find}
-use Rattle.values.specs.Meaning.{itemsFrom, entriesFrom, shape}
-use Rattle.values.specs.Steps.{Step, itemCount, entryCount, itemAt, indexed, itemNamed, sized, orElse, keyed, member, stepped}
-use Rattle.values.specs.Found.{placeOf, foundBy}
+use Rattle.tray.specs.Sound.{at, Behind}
+use Rattle.values.specs.Meaning.{itemsFrom, entriesFrom, shape, keyAt, valueAt}
+use Rattle.values.proofs.Unfolds.{stands}
+use Rattle.values.specs.Steps.{Step, number, name, itemCount, entryCount, itemAt, indexed, itemNamed, intoItems, sized, orElse, keyed, member, stepText, stepped}
+use Rattle.values.specs.Numbers.{placeOf, entryNumber, memberNumber, itemFound, itemNamedFound, amongItems, amongEntries, orSize, followed}
+use Rattle.values.proofs.Listing.{number-value}
+use Rattle.values.specs.Found.{foundBy}
 use Rattle.values.specs.declared.steps.Found.{Found}
 use Rattle.values.specs.declared.steps.Found.the-variants as found
 
@@ -60,37 +64,78 @@ index-some f i n z k e = ap (mapped (λ k. f (i + k))) e ∙ sym (at-place f i n
 pub index-none : (f : ℕ → Value) (i n : ℕ) (z : ℤ) → None ≡ placeOf n z → None ≡ indexed (itemsFrom f i n) z
 index-none f i n z e = ap (mapped (λ k. f (i + k))) e ∙ sym (at-place f i n z)
 
--- a key that is found, or `size`
-pub key-found : (es : Entries) (k : List ℕ) (v : Value) → Some v ≡ find k es → Some v ≡ keyed es k
-key-found es k v e = ap (λ o. orElse o (cond (sameText k (codes "size")) (sized (entryCount es)) None)) e
+-- what is found among items and entries is what the trees say
+mapped-twice : {X Y Z : Type 0} (g : Y → Z) (h : X → Y) (o : Option X) → mapped g (mapped h o) ≡ mapped (λ x. g (h x)) o
+mapped-twice g h None = refl
+mapped-twice g h (Some x) = refl
 
-pub key-size : (es : Entries) (k : List ℕ) (n : ℕ) → None ≡ find k es → true ≡ sameText k (codes "size") → n ≡ entryCount es → Some (whole (pos n)) ≡ keyed es k
-key-size es k n e t c =
-    ap (λ m. Some (whole (pos m))) c ∙ ap (λ b. cond b (sized (entryCount es)) None) t ∙ ap (λ o. orElse o (cond (sameText k (codes "size")) (sized (entryCount es)) None)) e
+item-means : (f : ℕ → Value) (i n : ℕ) (z : ℤ) → mapped (foundBy f) (itemFound i n z) ≡ indexed (itemsFrom f i n) z
+item-means f i n z = mapped-twice (foundBy f) (λ k. found.Record (i + k)) (placeOf n z) ∙ sym (at-place f i n z)
 
-pub key-none : (es : Entries) (k : List ℕ) → None ≡ find k es → false ≡ sameText k (codes "size") → None ≡ keyed es k
-key-none es k e t =
-    ap (λ b. cond b (sized (entryCount es)) None) t ∙ ap (λ o. orElse o (cond (sameText k (codes "size")) (sized (entryCount es)) None)) e
+cond-means : {X Y : Type 0} (g : X → Y) (b : Bool) (o p : Option X) (x y : Option Y) → mapped g o ≡ x → mapped g p ≡ y → mapped g (cond b o p) ≡ cond b x y
+cond-means g true o p x y s t = s
+cond-means g false o p x y s t = t
 
--- only arrays and objects have steps, and only objects keys
-pub no-member : (tx : List ℕ) (key : ℕ → List ℕ) (f : ℕ → Value) (r : Record) (k : List ℕ) → ((i n : ℕ) → r ≡ Object i n → ⊥) → None ≡ member (shape tx key f r) k
-no-member tx key f Nil k o = refl
-no-member tx key f (Boolean b) k o = refl
-no-member tx key f (Whole z) k o = refl
-no-member tx key f (Text p n) k o = refl
-no-member tx key f (Array i n) k o = refl
-no-member tx key f (Object i n) k o = absurd (o i n refl)
+size-means : (f : ℕ → Value) (b : Bool) (n m : ℕ) → n ≡ m → mapped (foundBy f) (cond b (Some (found.Size n)) None) ≡ cond b (sized m) None
+size-means f b n m e = cond-means (foundBy f) b (Some (found.Size n)) None (sized m) None (ap (λ k. Some (whole (pos k))) e) refl
 
-pub no-step : (tx : List ℕ) (key : ℕ → List ℕ) (f : ℕ → Value) (r : Record) (s : Step) → ((i n : ℕ) → r ≡ Array i n → ⊥) → ((i n : ℕ) → r ≡ Object i n → ⊥) → None ≡ stepped (shape tx key f r) s
-no-step tx key f Nil s a o = refl
-no-step tx key f (Boolean b) s a o = refl
-no-step tx key f (Whole z) s a o = refl
-no-step tx key f (Text p n) s a o = refl
-no-step tx key f (Array i n) s a o = absurd (a i n refl)
-no-step tx key f (Object i n) s a o = absurd (o i n refl)
+named-means : (f : ℕ → Value) (i n : ℕ) (k : List ℕ) → mapped (foundBy f) (itemNamedFound i n k) ≡ itemNamed (itemsFrom f i n) k
+named-means f i n k =
+    cond-means (foundBy f) (sameText k (codes "first")) _ _ _ _ (item-means f i n (pos 0))
+    (cond-means (foundBy f) (sameText k (codes "last")) _ _ _ _ (item-means f i n (negsuc 0)) (size-means f (sameText k (codes "size")) n _ (sym (count-items f i n))))
 
-pub size-named : (xs : Items) (k : List ℕ) (n : ℕ) → false ≡ sameText k (codes "first") → false ≡ sameText k (codes "last") → true ≡ sameText k (codes "size") → n ≡ itemCount xs → Some (whole (pos n)) ≡ itemNamed xs k
-size-named xs k n a b c e =
-    ap (λ m. Some (whole (pos m))) e ∙ ap (λ t. cond t (sized (itemCount xs)) None) c
-    ∙ ap (λ t. cond t (indexed xs (negsuc 0)) (cond (sameText k (codes "size")) (sized (itemCount xs)) None)) b
-    ∙ ap (λ t. cond t (indexed xs (pos 0)) (cond (sameText k (codes "last")) (indexed xs (negsuc 0)) (cond (sameText k (codes "size")) (sized (itemCount xs)) None))) a
+items-mean : (f : ℕ → Value) (i n : ℕ) (s : Step) → mapped (foundBy f) (amongItems i n s) ≡ intoItems (itemsFrom f i n) s
+items-mean f i n (number z) = item-means f i n z
+items-mean f i n (name k) = named-means f i n k
+
+or-size-means : (f : ℕ → Value) (o : Option ℕ) (n m : ℕ) (k : List ℕ) → n ≡ m → mapped (foundBy f) (orSize o n k) ≡ orElse (mapped f o) (cond (sameText k (codes "size")) (sized m) None)
+or-size-means f None n m k e = size-means f (sameText k (codes "size")) n m e
+or-size-means f (Some i) n m k e = refl
+
+entries-mean : (key : ℕ → List ℕ) (f : ℕ → Value) (i n : ℕ) (k : List ℕ) → mapped (foundBy f) (amongEntries key i n k) ≡ keyed (entriesFrom key f i n) k
+entries-mean key f i n k =
+    or-size-means f (entryNumber key k i n) n _ k (sym (count-entries key f i n))
+    ∙ ap (λ o. orElse o (cond (sameText k (codes "size")) (sized (entryCount (entriesFrom key f i n))) None)) (number-value k key f i n)
+
+follows-value : (tx : List ℕ) (key : ℕ → List ℕ) (f : ℕ → Value) (r : Record) (s : Step) → mapped (foundBy f) (followed key r s) ≡ stepped (shape tx key f r) s
+follows-value tx key f Nil s = refl
+follows-value tx key f (Boolean b) s = refl
+follows-value tx key f (Whole z) s = refl
+follows-value tx key f (Text p n) s = refl
+follows-value tx key f (Array i n) s = items-mean f i n s
+follows-value tx key f (Object i n) s = entries-mean key f i n (stepText s)
+
+member-value : (tx : List ℕ) (key : ℕ → List ℕ) (f : ℕ → Value) (r : Record) (k : List ℕ) → mapped f (memberNumber key r k) ≡ member (shape tx key f r) k
+member-value tx key f Nil k = refl
+member-value tx key f (Boolean b) k = refl
+member-value tx key f (Whole z) k = refl
+member-value tx key f (Text p n) k = refl
+member-value tx key f (Array i n) k = refl
+member-value tx key f (Object i n) k = number-value k key f i n
+
+-- no other record has members, or steps
+pub no-number : (key : ℕ → List ℕ) (r : Record) (k : List ℕ) → ((i n : ℕ) → r ≡ Object i n → ⊥) → None ≡ memberNumber key r k
+no-number key Nil k o = refl
+no-number key (Boolean b) k o = refl
+no-number key (Whole z) k o = refl
+no-number key (Text p n) k o = refl
+no-number key (Array i n) k o = refl
+no-number key (Object i n) k o = absurd (o i n refl)
+
+pub no-step : (key : ℕ → List ℕ) (r : Record) (s : Step) → ((i n : ℕ) → r ≡ Array i n → ⊥) → ((i n : ℕ) → r ≡ Object i n → ⊥) → None ≡ followed key r s
+no-step key Nil s a o = refl
+no-step key (Boolean b) s a o = refl
+no-step key (Whole z) s a o = refl
+no-step key (Text p n) s a o = refl
+no-step key (Array i n) s a o = absurd (a i n refl)
+no-step key (Object i n) s a o = absurd (o i n refl)
+
+module _ (rs : List Record) (tx : List ℕ) (b : Behind rs) (i : ℕ) where
+  -- the number of a record tells its value
+  pub member-so : (k : List ℕ) (o : Option ℕ) → o ≡ memberNumber (keyAt rs tx) (at rs i) k → mapped (valueAt rs tx) o ≡ member (valueAt rs tx i) k
+  member-so k o e =
+      ap (mapped (valueAt rs tx)) e ∙ member-value tx (keyAt rs tx) (valueAt rs tx) (at rs i) k ∙ sym (ap (λ v. member v k) (stands rs tx i (at rs i) b refl))
+
+  pub follow-so : (s : Step) (o : Option Found) → o ≡ followed (keyAt rs tx) (at rs i) s → mapped (foundBy (valueAt rs tx)) o ≡ stepped (valueAt rs tx i) s
+  follow-so s o e =
+      ap (mapped (foundBy (valueAt rs tx))) e ∙ follows-value tx (keyAt rs tx) (valueAt rs tx) (at rs i) s ∙ sym (ap (λ v. stepped v s) (stands rs tx i (at rs i) b refl))

@@ -6,6 +6,10 @@ use Rattle.std.specs.declared.option.Option.the-variants.{Some, None}
 use Rattle.tray.specs.declared.trays.Tray.{Tray}
 use Rattle.values.specs.declared.rows.Held.{Held}
 use Rattle.values.specs.declared.rows.Pair.{Pair}
+use Rattle.values.specs.declared.rows.Items.{Items as ItemsRow}
+use Rattle.values.specs.declared.rows.Pairs.{Pairs as PairsRow}
+use Rattle.tray.specs.declared.records.Record.{Record}
+use Rattle.tray.specs.declared.records.Record.the-variants.{Nil, Boolean, Whole, Text, Array, Object}
 use Rattle.values.specs.Value.{Value, nil, boolean, whole, text, array, object, Items, none, item, Entries, empty, entry}
 use Rattle.values.specs.Meaning.{valueOf}
 
@@ -55,3 +59,20 @@ pairsOf (whole z) = None
 pairsOf (text t) = None
 pairsOf (array xs) = None
 pairsOf (object es) = Some (pairsListed es)
+
+-- the rows of a record, by the records that it holds
+abbrev pub itemsRow : Record → Option ItemsRow
+itemsRow Nil = Some (record { first = 0; count = 0 })
+itemsRow (Boolean b) = None
+itemsRow (Whole z) = None
+itemsRow (Text p n) = None
+itemsRow (Array f n) = Some (record { first = f; count = n })
+itemsRow (Object f n) = None
+
+abbrev pub pairsRow : Record → Option PairsRow
+pairsRow Nil = None
+pairsRow (Boolean b) = None
+pairsRow (Whole z) = None
+pairsRow (Text p n) = None
+pairsRow (Array f n) = None
+pairsRow (Object f n) = Some (record { first = f; entries = n })

@@ -5,7 +5,10 @@ ghost use Prim.Native.Nat.{ℕ, _+_, _*_, _<_, _≤_};
 ghost use Rattle.std.specs.Options.{Cases, mapped};
 ghost use Rattle.values.specs.Value.{find as findIn};
 ghost use Rattle.tray.specs.Parts.{sameText};
+ghost use Rattle.tray.specs.Sound.{at as recordAt};
+ghost use Rattle.std.specs.Of.Vec.{vec-items};
 ghost use Rattle.values.specs.Steps.{member};
+ghost use Rattle.values.specs.Numbers.{entryNumber, memberNumber};
 ghost use Rattle.values.specs.RowsOf.{stepping};
 ghost use Rattle.values.specs.Keys.{keyText};
 ghost use Rattle.values.specs.declared.finds.Key.the-variants.{Entry};
@@ -78,6 +81,7 @@ impl<'a, 'k, 't> Equality<Key> for SameKey<'a, 'k, 't> as KeyEquality {
 
 // The value of the first with the key, by number, of the `count` entries from the record `first` on.
 pub fn find_in(tray: &Tray, first: u16, count: u16, key: &[u8]) -> Option<usize>
+    ensures number { λ r. ⌜ r ≡ entryNumber (textAt (now (tray .entry))) (now (key .entry)) first count ⌝ }
     ensures value { λ r. ⌜ mapped (valueOf (now (tray .entry))) r ≡ findIn (now (key .entry)) (entriesFrom (textAt (now (tray .entry))) (valueOf (now (tray .entry))) first count) ⌝ }
     ensures place { λ r. ⌜ Cases r (Unit {0}) (λ c. (first < c) × (c < first + 2 * count)) ⌝ }
 {
@@ -93,7 +97,8 @@ pub fn find_in(tray: &Tray, first: u16, count: u16, key: &[u8]) -> Option<usize>
 
 // The value of the first entry with the key, by number, where the record i is an object.
 pub fn find(tray: &Tray, i: usize, key: &[u8]) -> Option<usize>
-    ensures { λ r. ⌜ mapped (valueOf (now (tray .entry))) r ≡ member (valueOf (now (tray .entry)) i) (now (key .entry)) ⌝ }
+    ensures number { λ r. ⌜ r ≡ memberNumber (textAt (now (tray .entry))) (recordAt (vec-items (now (tray .entry) .records)) i) (now (key .entry)) ⌝ }
+    ensures value { λ r. ⌜ mapped (valueOf (now (tray .entry))) r ≡ member (valueOf (now (tray .entry)) i) (now (key .entry)) ⌝ }
 {
     match tray.record(i) {
         Record::Object(first, n) => find_in(tray, first, n, key),

@@ -2,7 +2,9 @@ ghost use mathlib.Core.Path.{_≡_};
 ghost use mathlib.Core.List.{map};
 ghost use Rattle.std.specs.Options.{mapped};
 ghost use Rattle.values.specs.Meaning.{valueOf};
-ghost use Rattle.values.specs.RowsOf.{stepping, heldAt, pairAt, heldValue, pairValue, itemsOf, pairsOf};
+ghost use Rattle.values.specs.RowsOf.{stepping, heldAt, pairAt, heldValue, pairValue, itemsOf, pairsOf, itemsRow, pairsRow};
+ghost use Rattle.std.specs.Of.Vec.{vec-items};
+ghost use Rattle.tray.specs.Sound.{at as recordAt};
 use rows::row::Row;
 use tray::records::Record;
 use tray::trays::Tray;
@@ -77,7 +79,8 @@ pub impl Row for Pairs as PairsRow {
 
 // The items of the record i, where it is an array or nil.
 pub fn items_of(tray: &Tray, i: usize) -> Option<Items>
-    ensures { λ r. ⌜ mapped (λ s. map (heldValue (now (tray .entry))) (map heldAt (stepping (s .first) 1 (s .count)))) r ≡ itemsOf (valueOf (now (tray .entry)) i) ⌝ }
+    ensures number { λ r. ⌜ r ≡ itemsRow (recordAt (vec-items (now (tray .entry) .records)) i) ⌝ }
+    ensures values { λ r. ⌜ mapped (λ s. map (heldValue (now (tray .entry))) (map heldAt (stepping (s .first) 1 (s .count)))) r ≡ itemsOf (valueOf (now (tray .entry)) i) ⌝ }
 {
     match tray.record(i) {
         Record::Nil => Some(Items { first: 0, count: 0 }),
@@ -88,7 +91,8 @@ pub fn items_of(tray: &Tray, i: usize) -> Option<Items>
 
 // The entries of the record i as pairs, where it is an object.
 pub fn pairs_of(tray: &Tray, i: usize) -> Option<Pairs>
-    ensures { λ r. ⌜ mapped (λ s. map (pairValue (now (tray .entry))) (map pairAt (stepping (s .first) 2 (s .entries)))) r ≡ pairsOf (valueOf (now (tray .entry)) i) ⌝ }
+    ensures number { λ r. ⌜ r ≡ pairsRow (recordAt (vec-items (now (tray .entry) .records)) i) ⌝ }
+    ensures values { λ r. ⌜ mapped (λ s. map (pairValue (now (tray .entry))) (map pairAt (stepping (s .first) 2 (s .entries)))) r ≡ pairsOf (valueOf (now (tray .entry)) i) ⌝ }
 {
     match tray.record(i) {
         Record::Object(first, count) => Some(Pairs {

@@ -1,10 +1,12 @@
 ghost use mathlib.Core.Path.{_≡_};
-ghost use Prim.Native.Nat.{ℕ, _+_};
+ghost use Prim.Native.Nat.{_+_};
+ghost use Rattle.std.specs.Of.Vec.{vec-items};
 ghost use Rattle.std.specs.Options.{mapped};
-ghost use Rattle.values.specs.Value.{Value};
-ghost use Rattle.values.specs.Meaning.{valueOf, textAt, itemsFrom, entriesFrom};
-ghost use Rattle.values.specs.Steps.{indexed, itemNamed, intoItems, keyed, stepText, stepped};
-ghost use Rattle.values.specs.Found.{foundBy, stepOf, placeOf};
+ghost use Rattle.tray.specs.Sound.{at as recordAt};
+ghost use Rattle.values.specs.Meaning.{valueOf, textAt};
+ghost use Rattle.values.specs.Steps.{stepText, stepped};
+ghost use Rattle.values.specs.Numbers.{placeOf, itemFound, itemNamedFound, amongItems, amongEntries, followed};
+ghost use Rattle.values.specs.Found.{foundBy, stepOf};
 use crate::finds::find_in;
 use numerals::write_whole;
 use tray::parts::same_text;
@@ -40,7 +42,7 @@ fn place(count: u16, z: i64) -> Option<usize>
 }
 
 fn item(first: u16, count: u16, z: i64) -> Option<Found>
-    ensures { λ r. ⌜ ((f : ℕ → Value) → mapped (foundBy f) r ≡ indexed (itemsFrom f first count) z) ⌝ }
+    ensures { λ r. ⌜ r ≡ itemFound first count z ⌝ }
 {
     match place(count, z) {
         Some(k) => Some(Found::Record(first as usize + k)),
@@ -49,7 +51,7 @@ fn item(first: u16, count: u16, z: i64) -> Option<Found>
 }
 
 fn item_named(first: u16, count: u16, name: &[u8]) -> Option<Found>
-    ensures { λ r. ⌜ ((f : ℕ → Value) → mapped (foundBy f) r ≡ itemNamed (itemsFrom f first count) (now (name .entry))) ⌝ }
+    ensures { λ r. ⌜ r ≡ itemNamedFound first count (now (name .entry)) ⌝ }
 {
     if same_text(name, b"first") {
         return item(first, count, 0);
@@ -64,7 +66,7 @@ fn item_named(first: u16, count: u16, name: &[u8]) -> Option<Found>
 }
 
 fn into_items(first: u16, count: u16, step: Step) -> Option<Found>
-    ensures { λ r. ⌜ ((f : ℕ → Value) → mapped (foundBy f) r ≡ intoItems (itemsFrom f first count) (stepOf (step .entry))) ⌝ }
+    ensures { λ r. ⌜ r ≡ amongItems first count (stepOf (step .entry)) ⌝ }
 {
     match step {
         Step::Number(z) => item(first, count, z),
@@ -73,7 +75,7 @@ fn into_items(first: u16, count: u16, step: Step) -> Option<Found>
 }
 
 fn entry_named(tray: &Tray, first: u16, count: u16, name: &[u8]) -> Option<Found>
-    ensures { λ r. ⌜ mapped (foundBy (valueOf (now (tray .entry)))) r ≡ keyed (entriesFrom (textAt (now (tray .entry))) (valueOf (now (tray .entry))) first count) (now (name .entry)) ⌝ }
+    ensures { λ r. ⌜ r ≡ amongEntries (textAt (now (tray .entry))) first count (now (name .entry)) ⌝ }
 {
     match find_in(tray, first, count, name) {
         Some(i) => Some(Found::Record(i)),
@@ -88,7 +90,7 @@ fn entry_named(tray: &Tray, first: u16, count: u16, name: &[u8]) -> Option<Found
 }
 
 fn into_entries(tray: &Tray, first: u16, count: u16, step: Step) -> Option<Found>
-    ensures { λ r. ⌜ mapped (foundBy (valueOf (now (tray .entry)))) r ≡ keyed (entriesFrom (textAt (now (tray .entry))) (valueOf (now (tray .entry))) first count) (stepText (stepOf (step .entry))) ⌝ }
+    ensures { λ r. ⌜ r ≡ amongEntries (textAt (now (tray .entry))) first count (stepText (stepOf (step .entry))) ⌝ }
 {
     match step {
         Step::Number(z) => {
@@ -104,7 +106,8 @@ fn into_entries(tray: &Tray, first: u16, count: u16, step: Step) -> Option<Found
 
 // Where a step from the record i comes to, if it comes anywhere.
 pub fn follow(tray: &Tray, i: usize, step: Step) -> Option<Found>
-    ensures { λ r. ⌜ mapped (foundBy (valueOf (now (tray .entry)))) r ≡ stepped (valueOf (now (tray .entry)) i) (stepOf (step .entry)) ⌝ }
+    ensures number { λ r. ⌜ r ≡ followed (textAt (now (tray .entry))) (recordAt (vec-items (now (tray .entry) .records)) i) (stepOf (step .entry)) ⌝ }
+    ensures value { λ r. ⌜ mapped (foundBy (valueOf (now (tray .entry)))) r ≡ stepped (valueOf (now (tray .entry)) i) (stepOf (step .entry)) ⌝ }
 {
     match tray.record(i) {
         Record::Array(first, n) => into_items(first, n, step),
