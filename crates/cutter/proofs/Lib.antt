@@ -1,0 +1,5 @@
+pub mod Splits
+pub mod Steps
+pub mod Only
+pub mod Right
+pub mod Lawful

@@ -1,0 +1,4 @@
+pub mod Cuts
+pub mod Scan
+pub mod Left
+pub mod Laws
