@@ -3,3 +3,5 @@ pub mod Steps
 pub mod Only
 pub mod Right
 pub mod Lawful
+pub mod Runs
+pub mod Filled

@@ -1,0 +1,20 @@
+-- What is left of an inside under the cursor.
+use mathlib.Core.Path.{_≡_}
+use Prim.Native.Nat.{_<_}
+use Rattle.cutter.specs.Words.{Words, over, wrong, word, wordsFrom}
+use Rattle.cutter.specs.declared.tokens.Cursor.{Cursor}
+use Rattle.cutter.specs.declared.tokens.Word.{Word}
+use Rattle.cutter.specs.declared.tokens.NoToken.{NoToken}
+use Rattle.std.specs.declared.option.Option.{Option}
+use Rattle.std.specs.declared.option.Option.the-variants.{Some, None}
+use Rattle.std.specs.declared.result.Result.{Result}
+use Rattle.std.specs.declared.result.Result.the-variants.{Ok, Err}
+
+abbrev pub ahead : Cursor → Words
+ahead c = wordsFrom (c .src .now) (c .at)
+
+-- what `next` answers, by what was ahead before and what is ahead after
+abbrev pub Took : Words → Result (Option Word) NoToken → Words → Type 0
+Took before (Ok None) after = (before ≡ over) × (after ≡ over)
+Took before (Ok (Some w)) after = before ≡ word (w .place) (w .bytes .now) after
+Took before (Err e) after = (before ≡ wrong (e .place)) × (after ≡ before)
