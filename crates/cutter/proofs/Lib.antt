@@ -5,3 +5,4 @@ pub mod Right
 pub mod Lawful
 pub mod Runs
 pub mod Filled
+pub mod Fill

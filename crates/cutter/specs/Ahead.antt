@@ -18,3 +18,9 @@ abbrev pub Took : Words → Result (Option Word) NoToken → Words → Type 0
 Took before (Ok None) after = (before ≡ over) × (after ≡ over)
 Took before (Ok (Some w)) after = before ≡ word (w .place) (w .bytes .now) after
 Took before (Err e) after = (before ≡ wrong (e .place)) × (after ≡ before)
+
+-- what `peek` answers, by what is ahead
+abbrev pub Sees : Words → Result (Option Word) NoToken → Type 0
+Sees now (Ok None) = now ≡ over
+Sees now (Ok (Some w)) = (rest : Words) × (now ≡ word (w .place) (w .bytes .now) rest)
+Sees now (Err e) = now ≡ wrong (e .place)

@@ -1,6 +1,6 @@
 ghost use mathlib.Core.Path.{_≡_};
-ghost use Rattle.cutter.specs.Words.{tokens};
-ghost use Rattle.cutter.specs.Ahead.{ahead, Took};
+ghost use Rattle.cutter.specs.Words.{tokens, Tokens-fill};
+ghost use Rattle.cutter.specs.Ahead.{ahead, Took, Sees};
 use crate::lengths::Class;
 use crate::lengths::run;
 use crate::lengths::token_length;
@@ -11,7 +11,8 @@ use crate::tokens::Word;
 impl<'a> Cursor<'a> {
     /// An inside to cut. Places count from its first byte.
     pub fn new(inside: &'a [u8]) -> Self
-        ensures { λ r. ⌜ ahead r ≡ tokens (now (inside .entry)) ⌝ }
+        ensures tokens { λ r. ⌜ ahead r ≡ tokens (now (inside .entry)) ⌝ }
+        ensures fill { λ _. ⌜ Tokens-fill ⌝ }
     {
         Cursor { src: inside, at: 0 }
     }
@@ -35,5 +36,13 @@ impl<'a> Cursor<'a> {
             place,
             bytes: &src[place..place + n],
         }))
+    }
+
+    /// The next token, which stays the next.
+    pub fn peek(&self) -> Result<Option<Word<'a>>, NoToken>
+        ensures { λ r. ⌜ Sees (ahead (now (self .entry))) r ⌝ }
+    {
+        let mut copy = *self;
+        copy.next()
     }
 }
