@@ -1,7 +1,7 @@
 -- What is left of an inside under the cursor.
 use mathlib.Core.Path.{_≡_}
 use Prim.Native.Nat.{_<_}
-use Rattle.cutter.specs.Words.{Words, over, wrong, word, wordsFrom}
+use Rattle.cutter.specs.Words.{Words, over, wrong, word, wordsFrom, verdict}
 use Rattle.cutter.specs.declared.tokens.Cursor.{Cursor}
 use Rattle.cutter.specs.declared.tokens.Word.{Word}
 use Rattle.cutter.specs.declared.tokens.NoToken.{NoToken}
@@ -24,3 +24,8 @@ abbrev pub Sees : Words → Result (Option Word) NoToken → Type 0
 Sees now (Ok None) = now ≡ over
 Sees now (Ok (Some w)) = (rest : Words) × (now ≡ word (w .place) (w .bytes .now) rest)
 Sees now (Err e) = now ≡ wrong (e .place)
+
+-- what `check` answers, by the tokens of the inside
+abbrev pub Judged : Words → Result (Prim.Unit {0}) NoToken → Type 0
+Judged w (Ok u) = verdict w ≡ None
+Judged w (Err e) = verdict w ≡ Some (e .place)

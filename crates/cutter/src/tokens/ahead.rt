@@ -1,6 +1,6 @@
 ghost use mathlib.Core.Path.{_≡_};
 ghost use Rattle.cutter.specs.Words.{tokens, Tokens-fill};
-ghost use Rattle.cutter.specs.Ahead.{ahead, Took, Sees};
+ghost use Rattle.cutter.specs.Ahead.{ahead, Took, Sees, Judged};
 use crate::lengths::Class;
 use crate::lengths::run;
 use crate::lengths::token_length;
@@ -45,4 +45,23 @@ impl<'a> Cursor<'a> {
         let mut copy = *self;
         copy.next()
     }
+}
+
+/// Whether the whole inside cuts into tokens, and where not.
+pub fn check(inside: &[u8]) -> Result<(), NoToken>
+    ensures { λ r. ⌜ Judged (tokens (now (inside .entry))) r ⌝ }
+{
+    let mut at = 0;
+    while at < inside.len() {
+        let place = at + run(Class::Blank, inside, at);
+        if place == inside.len() {
+            return Ok(());
+        }
+        let n = token_length(inside, place);
+        if n == 0 {
+            return Err(NoToken { place });
+        }
+        at = place + n;
+    }
+    Ok(())
 }
