@@ -1,5 +1,6 @@
 //! The calls that a case can make, and their answers as text.
 
+use crate::cutting;
 use crate::reading;
 use crate::words::Wrong;
 use crate::words::WrongFromAlloc;
@@ -48,6 +49,8 @@ impl Calls {
             "write" => write(heap, &mut words),
             "read" => maybe(heap, read_whole(text(&mut words)?)),
             "window" => window(heap, &mut words),
+            "cut" => cutting::cut(heap, text(&mut words)?),
+            "tokens" => cutting::tokens(heap, text(&mut words)?),
             "open" => self.open(&mut words),
             "nils" => nils(heap, size(&mut words)?),
             "letters" => letters(heap, size(&mut words)?),
