@@ -18,35 +18,6 @@ use crate::sums::SumsBank;
 use std::test::*;
 use tray::trays::Tray;
 
-// A bank that notes how often it was asked.
-#[derive(Drop)]
-struct Counted<B> {
-    bank: B,
-    asked: u8,
-}
-
-impl<B: Bank> Bank for Counted<B> as CountedBank {
-    ghost meaning = { λ c. B·Bank .meaning (c .bank) };
-
-    ghost lawful = { λ c. B·Bank .lawful (c .bank) };
-
-    fn knows(&mut self, name: &[u8]) -> bool {
-        self.asked = self.asked.wrapping_add(1);
-        self.bank.knows(name)
-    }
-
-    fn apply(
-        &mut self,
-        name: &[u8],
-        input: Operand,
-        argument: Option<Operand>,
-        answer: &mut [u8; 256],
-    ) -> Result<Answer, Cause> {
-        self.asked = self.asked.wrapping_add(1);
-        self.bank.apply(name, input, argument, answer)
-    }
-}
-
 fn whole<'a>(n: i64) -> Operand<'a> {
     Operand::Whole(n)
 }
@@ -162,10 +133,7 @@ fn phrases(rt: LibcRuntime) -> Result<(), Fail> {
     let Ok(tray) = Tray::open(rt.alloc(), &bytes, &letters) else {
         return Err(Fail::new("the tray is refused"));
     };
-    let mut bank = Counted {
-        bank: join(Sums, Phrases::new(tray)),
-        asked: 255,
-    };
+    let mut bank = join(Sums, Phrases::new(tray));
     check_eq(phrase(&mut bank, b"phrase", b"a"), (256, b'a'))?;
     check_eq(phrase(&mut bank, b"phrase", b"aa"), (4, 7))?;
     check_eq(phrase(&mut bank, b"plus", b"1"), (2, 7))

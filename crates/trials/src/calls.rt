@@ -2,6 +2,7 @@
 
 use crate::cutting;
 use crate::reading;
+use crate::sums;
 use crate::words::Wrong;
 use crate::words::WrongFromAlloc;
 use crate::words::WrongFromRefused;
@@ -49,6 +50,7 @@ impl Calls {
             "write" => write(heap, &mut words),
             "read" => maybe(heap, read_whole(text(&mut words)?)),
             "window" => window(heap, &mut words),
+            "sum" => sums::sum(heap, &mut words),
             "cut" => cutting::cut(heap, text(&mut words)?),
             "tokens" => cutting::tokens(heap, text(&mut words)?),
             "open" => self.open(&mut words),

@@ -3,6 +3,7 @@
 mod calls;
 mod cutting;
 mod reading;
+mod sums;
 mod words;
 
 use crate::calls::Calls;
