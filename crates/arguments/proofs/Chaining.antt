@@ -1,20 +1,18 @@
 -- One call after another.
-use Rattle.std.proofs.Common.{◌≡◌, ℕ, ◌+◌, ◌-◌, ◌<◌, ◌≤◌, Bool, true, false, ltb, leb, List, [], ◌∷◌, ◌++◌, map, length, take, drop, Some, None, Ok, Err, vec_items, Option, Result, sym, refl, ap, ◌∙◌, subst, arith, length-append, length-drop, length-take}
+use Rattle.std.proofs.Common.{◌≡◌, ℕ, ◌+◌, ◌-◌, ◌<◌, ◌≤◌, List, length, take, drop, Some, vec_items, Result, sym, ap, ◌∙◌, subst, arith}
 use Rattle.std.proofs.lemmas.Bool.{lt-ltb, le-leb}
 use Rattle.std.proofs.lemmas.List.{drop-drop, take-take, drop-take}
 use Rattle.cutter.specs.Tokens as cutter
 use Rattle.tree.specs.Expressions as tree
 use Rattle.nodes.specs.declared.exprs.Head.TheVariants.{Name}
-use Rattle.nodes.specs.declared.exprs.Part.{Part}
 use Rattle.nodes.specs.Exprs.{Pool, only, bytes_of, head_of}
-use Rattle.nodes.specs.Wider.{Front, Wider}
 use Rattle.nodes.proofs.Options.{front_then}
 use Rattle.nodes.proofs.Widens.{wider_then}
 use Rattle.arguments.specs.declared.reader.Reader.{Reader}
 use Rattle.arguments.specs.declared.refusals.Stop.{Stop}
 use Rattle.arguments.specs.declared.refusals.Stop.TheVariants.{Refused, Memory}
-use Rattle.arguments.specs.Judging.{State, Verdict, refuses, passes, Judge, went}
-use Rattle.arguments.specs.Tables.{part_in, pool_of, Refuses, Said, Grown, Lies}
+use Rattle.arguments.specs.Judging.{State, Verdict, passes, Judge, went}
+use Rattle.arguments.specs.Tables.{pool_of, Refuses, Said, Grown, Lies}
 
 pub grown_then : (d e f : Reader) → Grown d e → Grown e f → Grown d f
 grown_then d e f h k =

@@ -1,16 +1,11 @@
 -- Names that enter.
-use Rattle.std.proofs.Common.{◌≡◌, ℕ, zero, suc, ◌+◌, ◌<◌, ◌≤◌, Bool, true, false, cond, ◌&&◌, ltb, leb, List, [], ◌∷◌, ◌++◌, map, length, Some, None, Option, sym, refl, ap, ◌∙◌, arith}
+use Rattle.std.proofs.Common.{◌≡◌, ℕ, zero, suc, ◌+◌, ◌<◌, ◌≤◌, Bool, cond, ltb, leb, List, [], ◌∷◌, map, length, Some, None, refl, ap, ◌∙◌, arith}
 use Rattle.std.proofs.lemmas.Bool.{le-leb, lt-leb, lt-ltb, le-ltb, and_left, and_right, and_from}
-use Rattle.std.proofs.lemmas.List.{map-append, length-map}
 use Rattle.std.specs.List.{slice_get}
 use Rattle.rows.specs.First.{first_from}
 use Rattle.tray.specs.Parts.{same_text}
-use Rattle.cutter.specs.Words.{Words}
-use Rattle.nodes.specs.declared.exprs.Part.{Part}
-use Rattle.nodes.specs.Wider.{Front}
 use Rattle.nodes.proofs.Options.{none_some}
-use Rattle.arguments.specs.Judging.{Lists, State, state, Verdict, refuses, passes, with_name, entered, enter}
-use Rattle.arguments.specs.Tables.{part_in}
+use Rattle.arguments.specs.Judging.{State, state, refuses, passes, with_name, entered, enter}
 
 pub first_map : {A B : Type 0} (p : B → Bool) (f : A → B) (n : ℕ) (xs : List A) → first_from p n (map f xs) ≡ first_from (λ x. p (f x)) n xs
 first_map p f n [] = refl

@@ -1,7 +1,6 @@
 -- The parts of a token stand in the source.
-use Rattle.std.proofs.Common.{◌≡◌, ℕ, ◌+◌, ◌-◌, ◌<◌, ◌≤◌, List, [], ◌∷◌, ◌++◌, length, take, drop, sym, refl, ap, ◌∙◌, arith, length-append}
+use Rattle.std.proofs.Common.{◌≡◌, ℕ, ◌+◌, ◌-◌, ◌≤◌, List, ◌++◌, length, take, drop, sym, refl, ap, ◌∙◌, arith, length-append}
 use Rattle.std.proofs.lemmas.List.{take_at, drop_at, take_all}
-use Rattle.cutter.specs.Tokens as cutter
 use Rattle.arguments.specs.Tables.{Lies}
 use Rattle.arguments.proofs.Chaining.{lies_within}
 

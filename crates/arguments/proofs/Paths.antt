@@ -1,5 +1,5 @@
 -- Paths and their steps in the tables.
-use Rattle.std.proofs.Common.{◌≡◌, ℕ, suc, ◌+◌, ◌-◌, ◌<◌, ◌≤◌, Bool, true, false, cond, ltb, leb, List, [], ◌∷◌, ◌++◌, map, length, take, drop, Some, None, Ok, Err, vec_items, Option, Result, sym, refl, ap, ◌∙◌, subst, append_assoc, arith, length-append}
+use Rattle.std.proofs.Common.{◌≡◌, ℕ, suc, ◌+◌, ◌-◌, ◌<◌, Bool, true, false, List, [], ◌∷◌, ◌++◌, length, take, drop, Some, Ok, Err, vec_items, Result, sym, refl, ap, ◌∙◌, append_assoc, arith, length-append}
 use Rattle.std.proofs.lemmas.Bool.{le-leb, lt-leb, leb-true, leb-false}
 use Rattle.std.proofs.lemmas.List.{drop_at, take_all}
 use Rattle.std.specs.Option.{option_map}
@@ -11,12 +11,11 @@ use Rattle.nodes.specs.declared.exprs.Step.TheVariants.{Index, Key}
 use Rattle.nodes.specs.declared.exprs.Span.{Span}
 use Rattle.nodes.specs.declared.exprs.Expr.TheVariants.{Path}
 use Rattle.nodes.specs.Exprs.{Pool, ◌so◌, only, bytes_of, each, entries, head_of, step_of, expr_of}
-use Rattle.nodes.specs.Wider.{Front}
 use Rattle.arguments.specs.declared.reader.Reader.{Reader}
 use Rattle.arguments.specs.declared.refusals.Stop.{Stop}
 use Rattle.arguments.specs.Values.{tree_step_of}
 use Rattle.arguments.specs.Tables.{pool_of, Lies}
-use Rattle.arguments.specs.Reading.{KeysIn, Pushed, Stepped, entry_of}
+use Rattle.arguments.specs.Reading.{KeysIn, Stepped, entry_of}
 use Rattle.arguments.proofs.Chaining.{part_bytes, lies_within}
 
 pub path_of : (b : Pool) (h : Head) (s : Span) (y : tree.Head) (xs : List Step) (ts : List tree.Step) →

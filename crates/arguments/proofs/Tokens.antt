@@ -1,14 +1,12 @@
 -- What taking a token comes to.
-use Rattle.std.proofs.Common.{◌≡◌, ℕ, ◌+◌, ◌≤◌, Bool, true, false, ◌&&◌, leb, List, [], length, take, drop, Some, None, Option, sym, refl, ap, ◌∙◌}
+use Rattle.std.proofs.Common.{◌≡◌, ℕ, ◌+◌, true, leb, List, length, take, drop, None, Option, sym, ap, ◌∙◌}
 use Rattle.std.proofs.lemmas.Bool.{leb-true, and_parts}
 use Rattle.std.proofs.lemmas.Slice.Eq.{bytes_eq-Decides}
 use Rattle.std.specs.Str.{bytes_eq}
 use Rattle.cutter.specs.Words.{Words, over, wrong, word}
-use Rattle.nodes.proofs.Options.{front_refl}
-use Rattle.nodes.proofs.Widens.{wider_refl}
-use Rattle.arguments.specs.Judging.{Lists, State, state, Verdict, refuses, passes, Seen, seen, taken, token, kept_or, taken_if, token_if, none_left, finished}
+use Rattle.arguments.specs.Judging.{Lists, state, refuses, passes, Seen, seen, taken, token, kept_or, taken_if, token_if, none_left, finished}
 use Rattle.arguments.specs.Standing.{stands_at, standing}
-use Rattle.arguments.specs.Tables.{Lies, Grown, Shown}
+use Rattle.arguments.specs.Tables.{Lies}
 
 module _ (a : Words) (l : Lists) where
   pub token_word : (m p : ℕ) (b : List ℕ) (rest : Words) → a ≡ word p b rest → token m (state a l) ≡ passes (seen p b) (state rest l)

@@ -1,5 +1,5 @@
 -- How the tokens of a mark are judged: one after another, each as it is taken, with the lists of the sheet that it may add to.
-use Rattle.std.specs.Prelude.{ℕ, ◌+◌, Bool, true, false, cond, ◌&&◌, List, [], ◌∷◌, ◌++◌, length, Some, None, Option, nat_le, nat_lt}
+use Rattle.std.specs.Prelude.{ℕ, ◌+◌, Bool, cond, ◌&&◌, List, [], ◌∷◌, ◌++◌, length, Some, None, Option, nat_le, nat_lt}
 use Rattle.rows.specs.First.{first_from}
 use Rattle.tray.specs.Parts.{same_text}
 use Rattle.cutter.specs.Words.{Words, over, wrong, word}

@@ -1,5 +1,5 @@
 -- What was read, as entries of the tables.
-use Rattle.std.specs.Prelude.{◌≡◌, ℕ, Bool, true, false, List, [], ◌∷◌, ◌++◌, map, length, Some, None, Ok, Err, vec_items, Option, Result, nat_le}
+use Rattle.std.specs.Prelude.{◌≡◌, ℕ, Bool, true, false, List, [], ◌∷◌, ◌++◌, map, length, Some, Ok, Err, vec_items, Result, nat_le}
 use Rattle.cutter.specs.Paths.{PlacedStep, at_index, at_key}
 use Rattle.tree.specs.Expressions as tree
 use Rattle.nodes.specs.declared.exprs.Head.{Head}

@@ -1,5 +1,5 @@
 -- Values and chains of filters as arguments.
-use Rattle.std.specs.Prelude.{ℕ, zero, suc, ◌+◌, Bool, true, false, cond, ◌||◌, List, [], ◌∷◌, map, length, Some, None, codes, Option, ◌==◌, nat_le}
+use Rattle.std.specs.Prelude.{ℕ, zero, suc, ◌+◌, Bool, true, false, cond, List, [], ◌∷◌, map, length, Some, None, codes, Option, ◌==◌, nat_le}
 use Rattle.tray.specs.Parts.{same_text}
 use Rattle.tray.specs.Sound.{reserved}
 use Rattle.cutter.specs.declared.lengths.Symbol.{Symbol}

@@ -1,5 +1,5 @@
 -- Whether a record of a tray is a phrase.
-use Rattle.std.proofs.Common.{◌≡◌, ℕ, ◌<◌, ◌≤◌, leb, List, length, Ok, Err, vec_items, sym, refl, ap, ◌∙◌}
+use Rattle.std.proofs.Common.{◌≡◌, ℕ, ◌<◌, ◌≤◌, leb, List, length, Err, vec_items, sym, refl, ap, ◌∙◌}
 use Rattle.std.proofs.lemmas.Bool.{cond-true, cond-false, le-leb, lt-leb}
 use Rattle.tray.specs.declared.records.Record.{Record}
 use Rattle.tray.specs.declared.records.Record.TheVariants.{Nil, Boolean, Whole, Text, Array, Object}
@@ -11,7 +11,6 @@ use Rattle.values.specs.Meaning.{shape, key_at, value_at, value_of}
 use Rattle.values.proofs.Unfolds.{stands}
 use Rattle.banks.specs.declared.causes.Cause.TheVariants.{NoPhrase}
 use Rattle.banks.specs.Fetched.{Fetched}
-use Rattle.banks.specs.Meaning.{a_text}
 use Rattle.banks.specs.Phrases.{phrase_of}
 
 shape_no_phrase : (tx : List ℕ) (key : ℕ → List ℕ) (f : ℕ → Value) (r : Record) → ((p n : ℕ) → r ≡ Text p n → ⊥) → phrase_of (shape tx key f r) ≡ Err NoPhrase

@@ -1,5 +1,5 @@
 -- What the inner steps of the bank of sums answer.
-use Rattle.std.specs.Prelude.{ℕ, ℤ, ◌+ℤ◌, ◌-ℤ◌, ◌*ℤ◌, Ok, Err, Result}
+use Rattle.std.specs.Prelude.{ℤ, ◌+ℤ◌, ◌-ℤ◌, ◌*ℤ◌, Ok, Err, Result}
 use Rattle.banks.specs.declared.causes.Cause.{Cause}
 use Rattle.banks.specs.declared.sums.Operation.{Operation}
 use Rattle.banks.specs.declared.sums.Operation.TheVariants.{Plus, Minus, Times}

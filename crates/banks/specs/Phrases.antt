@@ -1,5 +1,5 @@
 -- The bank of phrases, over the object that has them by name.
-use Rattle.std.specs.Prelude.{ℕ, cond, List, length, Some, None, Ok, Err, codes, Option, Result, nat_le}
+use Rattle.std.specs.Prelude.{cond, length, Some, None, Ok, Err, codes, Option, Result, nat_le}
 use Rattle.tray.specs.Parts.{same_text}
 use Rattle.values.specs.Steps.{member}
 use Rattle.values.specs.Value.{Value, nil, boolean, whole, text, array, object}

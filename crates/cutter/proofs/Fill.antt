@@ -1,11 +1,11 @@
 -- The tokens as written and the blanks between them are the inside.
-use Rattle.std.proofs.Common.{◌≡◌, ℕ, zero, suc, ◌+◌, ◌-◌, ◌<◌, ◌≤◌, min, Bool, true, false, cond, ◌&&◌, ◌⊎◌, List, [], ◌∷◌, ◌++◌, length, take, drop, sym, refl, ap, ◌∙◌, subst, inl, inr, arith}
+use Rattle.std.proofs.Common.{◌≡◌, ℕ, zero, suc, ◌+◌, ◌-◌, ◌<◌, ◌≤◌, min, Bool, true, false, cond, ◌⊎◌, List, [], ◌∷◌, ◌++◌, length, take, drop, sym, refl, ap, ◌∙◌, subst, inl, inr, arith}
 use Rattle.std.proofs.lemmas.List.{take-append-drop, drop-drop, drop_all, length-take-le, length-take, length-drop, append-nil}
 use Rattle.std.proofs.lemmas.Bool.{and_from, cases_lt}
 use Rattle.cutter.specs.Left.{slice}
 use Rattle.cutter.specs.Lengths.{is_blank, run, run_at, token_length}
 use Rattle.cutter.specs.declared.lengths.Class.TheVariants.{Blank}
-use Rattle.cutter.specs.Words.{Words, over, wrong, word, words_from, all_blank, Fills, TokensFill, TokensFillFrom}
+use Rattle.cutter.specs.Words.{Words, over, words_from, all_blank, Fills, TokensFill, TokensFillFrom}
 use Rattle.cutter.proofs.Filled.{start, ends, no_token, token}
 use Rattle.cutter.proofs.Parts.{run_short}
 

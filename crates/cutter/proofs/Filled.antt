@@ -1,11 +1,11 @@
 -- Blanks, a token and the end, at a place of an inside.
-use Rattle.std.proofs.Common.{◌≡◌, ℕ, zero, suc, ◌+◌, ◌<◌, ◌≤◌, min, Bool, true, false, cond, ◌⊎◌, List, [], ◌∷◌, ◌++◌, length, get_or, drop, sym, refl, ap, ◌∙◌, inl, inr, arith}
+use Rattle.std.proofs.Common.{◌≡◌, ℕ, zero, suc, ◌+◌, ◌<◌, ◌≤◌, min, Bool, true, false, cond, ◌⊎◌, List, [], ◌∷◌, length, get_or, drop, sym, refl, ap, ◌∙◌, inl, inr, arith}
 use Rattle.std.proofs.lemmas.List.{at_drop_more, at_drop_all, length-drop, drop-drop, get_or-drop}
 use Rattle.std.proofs.lemmas.Bool.{cond-true, cond-false, cases_lt}
 use Rattle.cutter.specs.Left.{slice}
 use Rattle.cutter.specs.Lengths.{is_blank, run, run_at, token_length}
 use Rattle.cutter.specs.declared.lengths.Class.TheVariants.{Blank}
-use Rattle.cutter.specs.Words.{Words, over, wrong, word, begun, lex, words_from}
+use Rattle.cutter.specs.Words.{over, wrong, word, begun, lex, words_from}
 
 -- the blanks at the front are passed over
 past : (src : List ℕ) (at : ℕ) (bs : List ℕ) → lex src at 0 bs ≡ lex src (at + run Blank bs) 0 (drop (run Blank bs) bs)

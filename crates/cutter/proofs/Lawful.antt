@@ -1,5 +1,5 @@
 -- The laws of every cut.
-use Rattle.std.proofs.Common.{◌≡◌, ℕ, ◌≤◌, List, [], ◌∷◌, ◌++◌, length, sym, refl, ap, ◌∙◌, arith}
+use Rattle.std.proofs.Common.{◌≡◌, ℕ, ◌≤◌, List, ◌++◌, length, sym, ap, ◌∙◌, arith}
 use Rattle.std.proofs.lemmas.List.{append_assoc, length-append}
 use Rattle.cutter.specs.declared.state.Kind.{Kind}
 use Rattle.cutter.specs.declared.state.Kind.TheVariants.{Tag, Output}

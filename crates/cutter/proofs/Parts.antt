@@ -1,12 +1,12 @@
 -- The texts of a token's reading are parts of the token as written.
-use Rattle.std.proofs.Common.{◌≡◌, ℕ, zero, suc, ◌+◌, ◌-◌, ◌^◌, ◌<◌, ◌≤◌, min, Bool, true, false, cond, ltb, List, [], ◌∷◌, ◌++◌, length, get_or, take, drop, ℤ, Some, None, codes, Option, sym, refl, ap, ◌∙◌, arith}
+use Rattle.std.proofs.Common.{◌≡◌, ℕ, zero, suc, ◌+◌, ◌-◌, ◌^◌, ◌<◌, ◌≤◌, Bool, true, false, cond, ltb, List, [], ◌∷◌, length, get_or, take, drop, ℤ, Some, None, codes, Option, sym, refl, ap, ◌∙◌, arith}
 use Rattle.std.specs.Str.{bytes_eq}
 use Rattle.std.proofs.lemmas.List.{take-append-drop, length-take, length-drop}
 use Rattle.std.proofs.lemmas.Bool.{cond-true, cond-false, cond_both}
 use Rattle.numerals.specs.Decimal.{whole_of}
 use Rattle.cutter.specs.Left.{slice}
-use Rattle.cutter.specs.Lengths.{has, stands, run, run_at, name_length, value_length, symbol_of}
-use Rattle.cutter.specs.Tokens.{Reading, is_nil, is_boolean, is_number, is_text, is_name, is_path, is_range, is_symbol, word_of, name_of, bound_from, bound_to, bound_of, second, range_of, plain_of, token_of, Part, Parts, ReadsParts}
+use Rattle.cutter.specs.Lengths.{has, stands, run, run_at, name_length, symbol_of}
+use Rattle.cutter.specs.Tokens.{is_nil, is_text, is_path, word_of, name_of, bound_from, bound_to, second, range_of, plain_of, token_of, Part, Parts, ReadsParts}
 use Rattle.cutter.specs.declared.lengths.Symbol.{Symbol}
 use Rattle.cutter.specs.declared.lengths.Class.{Class}
 use Rattle.cutter.specs.declared.lengths.Class.TheVariants.{Blank, Initial, Quote, Is}

@@ -1,5 +1,5 @@
 -- The scan of a part is a right cut.
-use Rattle.std.proofs.Common.{◌≡◌, ℕ, ◌+◌, ◌-◌, ◌<◌, ◌≤◌, Bool, true, false, cond, eqb, ◌⊎◌, List, [], ◌∷◌, ◌++◌, length, take, drop, Some, None, Option, sym, refl, ap, ◌∙◌, subst, inl, inr, arith}
+use Rattle.std.proofs.Common.{◌≡◌, ℕ, ◌+◌, ◌-◌, ◌<◌, ◌≤◌, Bool, true, false, cond, eqb, ◌⊎◌, List, [], ◌∷◌, ◌++◌, length, drop, Some, None, sym, refl, ap, ◌∙◌, subst, inl, inr, arith}
 use Rattle.std.proofs.lemmas.List.{append_assoc, append-nil, length-append, length_push, take_at, drop_at}
 use Rattle.std.proofs.lemmas.Bool.{cond-true, cond-false, eqb-true, eqb-false}
 use Rattle.cutter.specs.declared.state.Kind.{Kind}
@@ -8,7 +8,7 @@ use Rattle.cutter.specs.declared.state.State.{State}
 use Rattle.cutter.specs.declared.state.State.TheVariants.{Text, Brace, Inside, Closing, Quoted}
 use Rattle.cutter.specs.declared.state.Event.{Event}
 use Rattle.cutter.specs.declared.state.Event.TheVariants as event
-use Rattle.cutter.specs.Cuts.{Cut, done, unclosed, text, mark, opening, closing, is_quote, turned, quote_after, Opens, Closes, NoneBefore, IsText, IsMark, IsUnclosed, Cuts}
+use Rattle.cutter.specs.Cuts.{Cut, done, unclosed, mark, opening, closing, is_quote, turned, quote_after, Opens, Closes, NoneBefore, Cuts}
 use Rattle.cutter.specs.Scan.{closer, stepped, some_text, all_but_last, last_of, ended, brings, scan}
 use Rattle.cutter.proofs.Splits.{none_more, quote_push, push_front}
 

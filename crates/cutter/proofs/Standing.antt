@@ -5,7 +5,7 @@ use Rattle.std.proofs.lemmas.Bool.{cases_lt}
 use Rattle.cutter.specs.Left.{slice}
 use Rattle.cutter.specs.Lengths.{run_at, token_length}
 use Rattle.cutter.specs.declared.lengths.Class.TheVariants.{Blank}
-use Rattle.cutter.specs.Words.{Words, over, wrong, word, words_from, Standing, Stand, TokensStand}
+use Rattle.cutter.specs.Words.{words_from, Standing, Stand, TokensStand}
 use Rattle.cutter.proofs.Filled.{start, ends, no_token, token}
 use Rattle.cutter.proofs.Parts.{front_is}
 

@@ -1,14 +1,14 @@
 -- The steps of a path one by one, and where their keys stand.
-use Rattle.std.proofs.Common.{◌≡◌, ℕ, zero, suc, ◌+◌, ◌-◌, ◌^◌, ◌<◌, ◌≤◌, Bool, true, false, cond, ◌&&◌, ltb, ◌⊎◌, List, [], ◌∷◌, ◌++◌, length, get_or, take, drop, ℤ, Some, None, Option, sym, refl, ap, ◌∙◌, subst, inl, inr, arith}
+use Rattle.std.proofs.Common.{◌≡◌, ℕ, zero, suc, ◌+◌, ◌-◌, ◌^◌, ◌<◌, ◌≤◌, ◌&&◌, ltb, ◌⊎◌, List, [], ◌∷◌, length, take, drop, ℤ, Some, None, Option, sym, refl, ap, ◌∙◌, subst, inl, inr, arith}
 use Rattle.std.proofs.lemmas.List.{at_drop_more, drop-drop, drop-take, take-take, take_rest, length-take, length-drop, nil_from_length}
-use Rattle.std.proofs.lemmas.Bool.{cond-true, cond-false, cond_both, and_parts, ltb-true, cases_lt}
+use Rattle.std.proofs.lemmas.Bool.{cond_both, and_parts, ltb-true, cases_lt}
 use Rattle.numerals.specs.Decimal.{whole_of}
 use Rattle.cutter.specs.Left.{slice}
 use Rattle.cutter.specs.Lengths.{stands, longer, name_length, key_length, bracketed, step_length, run_at}
 use Rattle.cutter.specs.Tokens.{inner, Part}
-use Rattle.cutter.specs.Paths.{PlacedStep, at_index, at_key, bracket_of, step_of, step_begun, stepping, steps_from, steps_of, KeysInside, KeysAreInside}
+use Rattle.cutter.specs.Paths.{PlacedStep, at_key, bracket_of, step_of, step_begun, stepping, steps_from, steps_of, KeysInside, KeysAreInside}
 use Rattle.cutter.specs.declared.lengths.Class.TheVariants.{Initial, Named, Is}
-use Rattle.cutter.proofs.Parts.{front_is, slice_part}
+use Rattle.cutter.proofs.Parts.{slice_part}
 use Rattle.cutter.proofs.Runs.{stands_within}
 
 skip : (place : ℕ) (bs : List ℕ) (at k : ℕ) (xs : List ℕ) → stepping place bs at k xs ≡ stepping place bs (at + k) 0 (drop k xs)

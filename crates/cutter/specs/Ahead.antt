@@ -1,5 +1,5 @@
 -- What is left of an inside under the cursor.
-use Rattle.std.specs.Prelude.{◌≡◌, ◌<◌, Some, None, Ok, Err, Option, Result}
+use Rattle.std.specs.Prelude.{◌≡◌, Some, None, Ok, Err, Option, Result}
 use Rattle.cutter.specs.Words.{Words, over, wrong, word, words_from, verdict}
 use Rattle.cutter.specs.declared.tokens.Cursor.{Cursor}
 use Rattle.cutter.specs.declared.tokens.Word.{Word}

@@ -1,5 +1,5 @@
 -- The steps of a path, from their bytes as written. `.` is 46.
-use Rattle.std.specs.Prelude.{◌≡◌, ℕ, zero, suc, ◌+◌, ◌-◌, ◌^◌, Bool, cond, List, [], ◌∷◌, length, drop, ℤ, Some, None, Option, nat_lt}
+use Rattle.std.specs.Prelude.{◌≡◌, ℕ, zero, suc, ◌+◌, ◌^◌, cond, List, [], ◌∷◌, length, drop, ℤ, Some, None, Option, nat_lt}
 use Rattle.numerals.specs.Decimal.{whole_of}
 use Rattle.cutter.specs.Left.{slice}
 use Rattle.cutter.specs.Lengths.{stands, step_length}

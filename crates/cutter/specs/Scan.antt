@@ -1,5 +1,5 @@
 -- The cut of a part, byte by byte.
-use Rattle.std.specs.Prelude.{ℕ, ◌+◌, ◌-◌, Bool, cond, ◌&&◌, List, [], ◌∷◌, ◌++◌, length, take, drop, ◌==◌, nat_le, nat_lt}
+use Rattle.std.specs.Prelude.{ℕ, ◌+◌, ◌-◌, Bool, cond, List, [], ◌∷◌, ◌++◌, length, take, drop, ◌==◌, nat_le, nat_lt}
 use Rattle.cutter.specs.declared.state.Kind.{Kind}
 use Rattle.cutter.specs.declared.state.Kind.TheVariants.{Tag, Output}
 use Rattle.cutter.specs.declared.state.State.{State}

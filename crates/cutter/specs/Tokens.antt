@@ -1,5 +1,5 @@
 -- What a token as written stands for. `(` is 40.
-use Rattle.std.specs.Prelude.{◌≡◌, ℕ, ◌+◌, ◌-◌, ◌^◌, ◌≤◌, min, Bool, true, false, cond, List, [], ◌∷◌, ◌++◌, length, take, drop, ℤ, Some, None, codes, Option, nat_lt, slice_index}
+use Rattle.std.specs.Prelude.{◌≡◌, ℕ, ◌+◌, ◌-◌, ◌^◌, ◌≤◌, min, Bool, true, false, cond, List, ◌++◌, length, take, drop, ℤ, Some, None, codes, Option, nat_lt, slice_index}
 use Rattle.std.specs.Str.{bytes_eq}
 use Rattle.numerals.specs.Decimal.{whole_of}
 use Rattle.cutter.specs.Left.{slice}

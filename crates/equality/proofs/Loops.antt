@@ -1,8 +1,7 @@
 -- Loops over items and entries: what is left gives the answer.
-use Rattle.std.proofs.Common.{◌≡◌, ℕ, zero, suc, ◌+◌, ◌-◌, ◌*◌, ◌<◌, ◌≤◌, Bool, true, false, cond, not, ◌&&◌, ◌||◌, List, is_some, Some, None, Option, sym, refl, ap, ◌∙◌, subst, ap₂, arith}
+use Rattle.std.proofs.Common.{◌≡◌, ℕ, zero, suc, ◌+◌, ◌*◌, ◌<◌, ◌≤◌, Bool, true, false, ◌&&◌, ◌||◌, List, is_some, Some, None, Option, sym, refl, ap, ◌∙◌, ap₂}
 use Rattle.std.specs.Option.{option_map}
-use Rattle.tray.specs.Parts.{same_text}
-use Rattle.values.specs.Value.{Value, Items, none, item, Entries, empty, entry, put, find, within, equal, equal_items, agrees, found, head_of, is_none}
+use Rattle.values.specs.Value.{Value, Entries, empty, find, within, equal, equal_items, agrees, found}
 use Rattle.values.specs.Meaning.{items_from, entries_from}
 use Rattle.values.proofs.Rests.{items_left, entries_left, items_none, items_all, items_more, entries_none, entries_all, entries_more, put_more}
 

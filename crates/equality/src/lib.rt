@@ -1,4 +1,7 @@
 // When two values of a tray are equal.
+
+#![tactic(auto)]
+
 ghost use Rattle.std.specs.Prelude.{◌≡◌, ℕ, ◌+◌, ◌*◌, ◌<◌, ◌≤◌, true};
 ghost use Rattle.values.specs.Value.{equal as areEqual, equal_items, agrees as allAgree, within as allIn, empty};
 ghost use Rattle.values.specs.Meaning.{value_of, text_at, count_of, items_from, entries_from, Below};
@@ -31,7 +34,7 @@ fn within(tray: &Tray, first: u16, count: u16, other: u16, others: u16) -> bool
 }
 
 // Whether two records stand for equal values.
-#[cycle(agrees_equal_at_equal_items)]
+#[cycle(equal_values)]
 fn equal_at(tray: &Tray, a: usize, b: usize) -> bool
     ensures { result ≡ areEqual (value_of tray.now a) (value_of tray.now b) }
 {
@@ -52,7 +55,7 @@ fn equal_at(tray: &Tray, a: usize, b: usize) -> bool
     }
 }
 
-#[cycle(agrees_equal_at_equal_items)]
+#[cycle(equal_values)]
 fn equal_items(tray: &Tray, holder: usize, f: u16, n: u16, g: u16, m: u16) -> bool
     requires { Below holder f n (count_of tray.now) }
     ensures { result ≡ equal_items (items_from (value_of tray.now) f n) (items_from (value_of tray.now) g m) }
@@ -69,7 +72,7 @@ fn equal_items(tray: &Tray, holder: usize, f: u16, n: u16, g: u16, m: u16) -> bo
 }
 
 // Whether each entry that no earlier one hides finds an equal value in the other object.
-#[cycle(agrees_equal_at_equal_items)]
+#[cycle(equal_values)]
 fn agrees(tray: &Tray, holder: usize, f: u16, n: u16, g: u16, m: u16) -> bool
     requires { Below holder f (2 * n) (count_of tray.now) }
     ensures { result ≡ allAgree (entries_from (text_at tray.now) (value_of tray.now) f n) empty (entries_from (text_at tray.now) (value_of tray.now) g m) }

@@ -1,10 +1,10 @@
 -- Two calls that do not clash commute.
-use Rattle.std.proofs.Common.{◌≡◌, ℕ, ◌⊎◌, List, [], ◌∷◌, ◌++◌, sym, refl, ap, ◌∙◌, subst, inl, inr}
+use Rattle.std.proofs.Common.{◌≡◌, ℕ, ◌⊎◌, List, [], ◌∷◌, ◌++◌, sym, refl, ◌∙◌, inl, inr}
 use mathlib.Core.Path.{fun_ext}
 use native.Mathlib.Decide.{ℕ_discrete}
 use Rattle.banks.specs.Meaning.{Meaning}
 use Rattle.meaning.specs.Things.{Thing, name, Thing-discrete, Drawers}
-use Rattle.meaning.specs.Acts.{Act, gives, stops, Step, step}
+use Rattle.meaning.specs.Acts.{gives, stops, Step, step}
 use Rattle.meaning.specs.Leaves.{Flow}
 use Rattle.meaning.specs.Calls.{Sheet, Call, Judged, refusal, sets, renders, judged, judged_reads, judged_writes, call_reads, call_writes}
 use Rattle.meaning.specs.Calls.{In, Meet, Clash, act, result, drawers_after, perform}

@@ -1,11 +1,11 @@
 -- An act is confined by two sets of things and a length: it is tied to the sets, and it only adds to a text of at most that length, which it does not pass.
-use Rattle.std.proofs.Common.{◌≡◌, ℕ, zero, suc, ◌+◌, ◌≤◌, Bool, true, false, cond, leb, List, [], ◌∷◌, ◌++◌, length, take, drop, Some, None, sym, refl, ap, ◌∙◌, subst, append_assoc, arith, leb-true}
+use Rattle.std.proofs.Common.{◌≡◌, ℕ, ◌+◌, ◌≤◌, Bool, true, false, cond, leb, List, [], ◌∷◌, ◌++◌, length, take, drop, None, sym, refl, ap, ◌∙◌, subst, append_assoc, arith, leb-true}
 use Rattle.std.proofs.lemmas.List.{append-nil}
-use Rattle.meaning.specs.Things.{Thing, Content, Drawers, altered}
+use Rattle.meaning.specs.Things.{Thing, Content, Drawers}
 use Rattle.meaning.specs.Frames.{Frames}
 use Rattle.meaning.specs.Acts.{Fault, fault_at, End, gives, stops, Step, step, Act, go_on, ◌and_then◌, still, look, alter, emit, cut, aside}
 use Rattle.meaning.specs.Calls.{text_after}
-use Rattle.meaning.proofs.Tied.{Tied, and_then_tied, still_tied, cond_tied, aside_tied, emit_tied, look_tied, alter_tied}
+use Rattle.meaning.proofs.Tied.{Tied, and_then_tied, still_tied, aside_tied, emit_tied, look_tied, alter_tied}
 
 -- the step added to the text `o`, up to the length `k`
 pub record Grown {A : Type 0} (k : ℕ) (o : List ℕ) (s : Step A) : Type 0 where

@@ -1,5 +1,5 @@
 -- Lists of things inside a set.
-use Rattle.std.proofs.Common.{◌≡◌, ◌⊎◌, List, [], ◌∷◌, ◌++◌, refl, inl, inr}
+use Rattle.std.proofs.Common.{List, [], ◌∷◌, ◌++◌, refl, inl, inr}
 use Rattle.meaning.specs.Things.{Thing}
 use Rattle.meaning.specs.Calls.{In}
 

@@ -1,17 +1,16 @@
 -- The laws of calls and of rendered text.
-use Rattle.std.proofs.Common.{◌≡◌, ℕ, zero, suc, ◌+◌, ◌-◌, ◌≤◌, Bool, true, false, cond, leb, List, [], ◌∷◌, ◌++◌, length, take, replicate, Some, None, Option, sym, refl, ap, ◌∙◌, subst, arith}
+use Rattle.std.proofs.Common.{◌≡◌, ℕ, ◌-◌, ◌≤◌, Bool, true, false, cond, leb, List, [], ◌++◌, length, replicate, Some, None, Option, sym, refl, ap, subst, arith}
 use Rattle.std.proofs.lemmas.List.{length-append, length-replicate, length-take}
 use Rattle.std.specs.List.{slice_get}
 use Rattle.banks.specs.Meaning.{Meaning}
 use Rattle.tree.specs.Elements.{Tree}
-use Rattle.meaning.specs.Things.{Thing, Drawers}
+use Rattle.meaning.specs.Things.{Drawers}
 use Rattle.meaning.specs.Hosts.{Host}
 use Rattle.meaning.specs.Frames.{TrailRecord, blank, sixteen}
-use Rattle.meaning.specs.Acts.{Fault, Step, step, gives, stops, still}
+use Rattle.meaning.specs.Acts.{Step, step, gives, stops, still}
 use Rattle.meaning.specs.Leaves.{Flow}
-use Rattle.meaning.specs.Calls.{Sheet, Call, page, Judged, refusal, sets, renders, judged, judged_page, Result, refused, accepted, rendered, filled, ticket, text_after, drawers_after, act, result, perform}
+use Rattle.meaning.specs.Calls.{Sheet, Judged, refusal, renders, judged_page, Result, refused, accepted, rendered, filled, ticket, text_after, drawers_after, act, result, perform}
 use Rattle.meaning.specs.Laws.{ChangesOnlyWhatItWrites, DependsOnlyOnWhatItReads, WithoutAClashTheyCommute, RefusedCallsTouchNothing, RenderingOnlyAdds, Whole, TicketsAreWhole}
-use Rattle.meaning.proofs.Confined.{Grown, Confined}
 use Rattle.meaning.proofs.Rendering.{render_confined}
 use Rattle.meaning.proofs.Commute.{keeps, agrees, commute, act_confined}
 

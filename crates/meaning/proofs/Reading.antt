@@ -1,24 +1,23 @@
 -- Steps and rows on records are those on the trees of values.
-use Rattle.std.proofs.Common.{◌≡◌, ℕ, zero, suc, ◌+◌, ◌-◌, Bool, true, false, cond, ltb, List, [], ◌∷◌, map, length, ℤ, pos, negsuc, Some, None, codes, Option, sym, refl, ap, ◌∙◌, subst, arith}
+use Rattle.std.proofs.Common.{◌≡◌, ℕ, zero, suc, ◌+◌, Bool, true, false, cond, ltb, List, [], ◌∷◌, map, length, ℤ, pos, negsuc, Some, None, codes, Option, sym, refl, ap, ◌∙◌, arith}
 use Rattle.std.specs.Option.{option_map, option_or}
 use Rattle.tray.specs.declared.records.Record.{Record}
 use Rattle.tray.specs.declared.records.Record.TheVariants.{Nil, Boolean, Whole, Text, Array, Object}
 use Rattle.tray.specs.Parts.{same_text}
-use Rattle.tray.specs.Sound.{at, Behind, KeysText, Sound}
+use Rattle.tray.specs.Sound.{at, Behind, KeysText}
 use Rattle.values.specs.Value.{Value, find}
-use Rattle.values.specs.Value as tree
 use Rattle.values.specs.Numbers.{place_of}
 use Rattle.values.specs.Meaning.{items_from, entries_from, shape, key_at, value_at}
-use Rattle.values.specs.RowsOf.{stepping, items_of, pairs_of}
-use Rattle.values.specs.Steps.{indexed, item_named, into_items, sized, or_else, keyed, item_count, entry_count, step_text, stepped as tree-stepped}
+use Rattle.values.specs.RowsOf.{items_of, pairs_of}
+use Rattle.values.specs.Steps.{indexed, into_items, sized, or_else, keyed, step_text, stepped as tree-stepped}
 use Rattle.values.proofs.Unfolds.{unfolds, stands}
 use Rattle.values.proofs.Stepping.{count_items, count_entries, index_some, index_none}
 use Rattle.values.proofs.Listing.{array_row, object_row}
 use Rattle.tree.specs.Expressions.{Step, index, key}
 use Rattle.meaning.specs.Things.{Held, nil, boolean, whole, text, array, object, pair}
-use Rattle.meaning.specs.Hosts.{Host, value_of, kept_record, record_at, if_array, if_object, if_pair, read_again, item_at, item_keyed, step_into_items, entry_of, key_of, step_into_entries, step_into_record, stepped}
+use Rattle.meaning.specs.Hosts.{Host, value_of, kept_record, record_at, if_array, if_object, if_pair, read_again, item_at, step_into_items, entry_of, key_of, step_into_entries, step_into_record, stepped}
 use Rattle.meaning.specs.Rows.{record_row, row}
-use Rattle.meaning.specs.Reading.{tree_step, tree_row, There, StepsAgree, RowsAgree, ReadAgainIsThere}
+use Rattle.meaning.specs.Reading.{tree_step, tree_row, StepsAgree, RowsAgree, ReadAgainIsThere}
 
 mapped_cond : {A B : Type 0} (f : A → B) (b : Bool) (x y : Option A) {u v : Option B} → option_map f x ≡ u → option_map f y ≡ v → option_map f (cond b x y) ≡ cond b u v
 mapped_cond f true x y p q = p

@@ -1,15 +1,15 @@
 -- A rendering is confined by what its template reads and writes.
-use Rattle.std.proofs.Common.{◌≡◌, ℕ, ◌+◌, ◌-◌, ◌≤◌, Bool, true, false, cond, leb, List, [], ◌∷◌, ◌++◌, length, take, drop, ℤ, pos, negsuc, ◌+ℤ◌, ◌-ℤ◌, Some, None, Option, unwrap_or, sym, refl, ap, ◌∙◌, subst}
+use Rattle.std.proofs.Common.{ℕ, ◌+◌, ◌-◌, ◌≤◌, Bool, true, false, cond, leb, List, [], ◌∷◌, ◌++◌, length, take, drop, ℤ, pos, negsuc, ◌+ℤ◌, ◌-ℤ◌, Some, None, Option, unwrap_or, sym, refl, ap, ◌∙◌, subst}
 use Rattle.tray.specs.Parts.{same_text}
 use Rattle.std.specs.List.{slice_get}
 use Rattle.rows.specs.Windows.{windowed}
 use Rattle.tree.specs.Expressions.{Expr, Row, row_from, range}
 use Rattle.tree.specs.Elements.{Leaf, plain, output, assign, increment, decrement, cycle, break, continue}
 use Rattle.tree.specs.Elements.{Block, if_block, case_block, for_block, tablerow_block, capture_block, ifchanged_block, Guard, holds, fails, equals_one, has_items, always, Tree, done, leaf, block, Arms, no_arms, arm}
-use Rattle.meaning.specs.Things.{Thing, name, cycle_name, changed, Drawers, altered, Held, with_variable, with_shown}
+use Rattle.meaning.specs.Things.{Thing, name, cycle_name, changed, Drawers, altered, Held, with_shown}
 use Rattle.meaning.specs.Frames.{Frames, Manner, once, each, cells, keeping, watching}
-use Rattle.meaning.specs.Acts.{Act, ◌and_then◌, pure, aside, Step, step, gives, stops, fault_at, still, faults, append, look, alter}
-use Rattle.meaning.specs.Looking.{World, eval, number_of}
+use Rattle.meaning.specs.Acts.{Act, ◌and_then◌, pure, aside, Step, step, gives, stops, still, faults, append, look, alter}
+use Rattle.meaning.specs.Looking.{World, number_of}
 use Rattle.meaning.specs.Leaves.{Flow, onward, broken, continued, count_of, write, store, count_on, cycle_value, cycled, leaf_act}
 use Rattle.meaning.specs.Openings.{Opening, whole_number, the_row, counted_row, needs_columns, laid_out, number, number_if, gone_over, opened}
 use Rattle.meaning.specs.Blocks.{manner, for_manner, next_visit, after_visit, visits, after_element, keep_text, show_text, closed, around, one_equal, passes, mark_if, enters, leaves, visit}

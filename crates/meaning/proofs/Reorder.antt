@@ -1,11 +1,11 @@
 -- The order theorem.
-use Rattle.std.proofs.Common.{◌≡◌, ℕ, zero, suc, ◌+◌, ◌<◌, ◌≤◌, ◌⊎◌, List, [], ◌∷◌, ◌++◌, length, Some, None, Option, sym, refl, ap, ◌∙◌, subst, inl, inr, zero-add, arith}
+use Rattle.std.proofs.Common.{◌≡◌, ℕ, suc, ◌<◌, ◌≤◌, ◌⊎◌, List, [], ◌∷◌, length, Some, sym, refl, ap, ◌∙◌, subst, inl, inr, zero-add, arith}
 use Rattle.std.specs.List.{slice_get}
 use Rattle.banks.specs.Meaning.{Meaning}
-use Rattle.meaning.specs.Things.{Thing, Drawers}
+use Rattle.meaning.specs.Things.{Drawers}
 use Rattle.meaning.specs.Calls.{Sheet, In, Clash, Call, Result, perform, run}
 use Rattle.meaning.specs.Order.{Arrangement, Follows, KeepsClashes, OrderFree}
-use Rattle.meaning.proofs.Commute.{Commutes, commute}
+use Rattle.meaning.proofs.Commute.{commute}
 use Rattle.meaning.proofs.Indexes.{at_in, in_at, at_below, Pairs, pairs, numbered, numbered_at, numbered_in}
 use Rattle.meaning.proofs.Indexes.{beside, beside_at, beside_back, there}
 

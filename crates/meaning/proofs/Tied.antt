@@ -1,6 +1,6 @@
 -- An act is tied to two sets of things, X and W, where what it does depends on no thing outside X, and it changes no thing outside W.
-use Rattle.std.proofs.Common.{◌≡◌, ℕ, Bool, true, false, cond, T, eqb, List, [], ◌∷◌, ◌++◌, length, sym, refl, ap, ◌∙◌, subst, eqb→eq}
-use Rattle.meaning.specs.Things.{Thing, name, cycle_name, changed, Content, Drawers, same_thing, altered}
+use Rattle.std.proofs.Common.{◌≡◌, ℕ, Bool, true, false, cond, T, List, length, refl, ap, ◌∙◌, subst, eqb→eq}
+use Rattle.meaning.specs.Things.{Thing, name, cycle_name, changed, Content, Drawers, same_thing}
 use Rattle.meaning.specs.Frames.{Frames}
 use Rattle.meaning.specs.Acts.{End, gives, stops, Step, step, Act, go_on, ◌and_then◌, still, look, alter, append, emit, cut, aside}
 

@@ -1,5 +1,5 @@
 -- Evaluation is confined by what its values read.
-use Rattle.std.proofs.Common.{ℕ, Bool, true, false, cond, List, [], ◌∷◌, ◌++◌, Some, None, Ok, Err, Option, Result}
+use Rattle.std.proofs.Common.{ℕ, List, [], ◌∷◌, Some, None, Ok, Err, Option, Result}
 use Rattle.banks.specs.declared.causes.Cause.{Cause}
 use Rattle.banks.specs.Meaning.{Given, a_number, a_text, Meaning}
 use Rattle.banks.specs.Operands.{Datum}
@@ -7,11 +7,10 @@ use Rattle.tree.specs.Expressions.{Head, forloop, tablerowloop, named, Expr, nil
 use Rattle.tree.specs.Conditions.{Comparison, equals, differs, is_less, is_more, at_most, at_least, contains, Test, exists, compares, Condition, only, both, either}
 use Rattle.meaning.specs.Things.{Thing, name, Held, nil, boolean, whole, text, array, object, pair}
 use Rattle.meaning.specs.Frames.{Frames, bound, Met, value, loop}
-use Rattle.meaning.specs.Acts.{Act, ◌and_then◌, pure}
-use Rattle.meaning.specs.Looking.{World, sought, find, reach, needed, eval, text_of}
+use Rattle.meaning.specs.Looking.{World, sought, find, reach, needed, eval}
 use Rattle.meaning.specs.Tests.{in_text, holding, compared, tested, judged}
 use Rattle.meaning.specs.Chains.{fit, fit_argument, answered, called, argument_of, through, chained}
-use Rattle.meaning.specs.Sharing.{head_reads, expr_reads, option_reads, exprs_read, filters_read, chain_reads, test_reads, condition_reads}
+use Rattle.meaning.specs.Sharing.{head_reads, expr_reads, option_reads, filters_read, chain_reads, test_reads, condition_reads}
 use Rattle.meaning.proofs.Confined.{Confined, and_then_confined, quiet_confined, cond_confined, look_confined}
 use Rattle.meaning.proofs.Covers.{Covers, first, left, right}
 

@@ -1,5 +1,5 @@
 -- The worked cases, by computation.
-use Rattle.std.proofs.Common.{◌≡◌, ℕ, ◌⊎◌, refl, inl, inr, arith}
+use Rattle.std.proofs.Common.{◌≡◌, ℕ, refl, inl, inr, arith}
 use Rattle.numerals.specs.Decimal.{natural_text, whole_text, whole_of}
 use Rattle.rows.specs.Windows.{windowed}
 use Rattle.tray.specs.Parts.{same_text}

@@ -1,5 +1,5 @@
 -- The acts that rendering is made of: what each does to the drawers and to the text in the buffer.
-use Rattle.std.specs.Prelude.{ℕ, ◌+◌, Bool, true, false, cond, List, [], ◌∷◌, ◌++◌, length, take, drop, Some, None, Option, nat_le}
+use Rattle.std.specs.Prelude.{ℕ, ◌+◌, cond, List, ◌++◌, length, take, drop, Some, None, Option, nat_le}
 use Rattle.meaning.specs.Things.{Thing, Content, Drawers, altered}
 use Rattle.meaning.specs.Frames.{Frames, TrailRecord, trail_of}
 

@@ -4,8 +4,8 @@ use Rattle.numerals.specs.Decimal.{natural_text}
 use Rattle.tray.specs.Parts.{same_text}
 use Rattle.tree.specs.Expressions.{Expr}
 use Rattle.tree.specs.Elements.{Block, if_block, case_block, for_block, tablerow_block, capture_block, ifchanged_block, Guard, holds, fails, equals_one, has_items, always}
-use Rattle.meaning.specs.Things.{name, changed, Content, Held, nil, text, with_variable, with_shown}
-use Rattle.meaning.specs.Frames.{Manner, once, each, cells, keeping, watching, Frame, Frames, column, row_number, is_col_first, is_col_last}
+use Rattle.meaning.specs.Things.{name, changed, Held, nil, text, with_variable, with_shown}
+use Rattle.meaning.specs.Frames.{Manner, once, each, cells, keeping, watching, Frames, column, row_number, is_col_first, is_col_last}
 use Rattle.meaning.specs.Acts.{Step, Act, go_on, ◌and_then◌, pure, faults, emit, append, look, alter, cut}
 use Rattle.meaning.specs.Looking.{World, eval}
 use Rattle.meaning.specs.Tests.{same, judged}

@@ -1,5 +1,5 @@
 -- Calls on a sheet: what each gives and leaves, what it reads and writes, and runs of them.
-use Rattle.std.specs.Prelude.{◌≡◌, ℕ, ◌-◌, Bool, true, false, cond, ◌⊎◌, List, [], ◌∷◌, ◌++◌, length, replicate, Some, None, Option, nat_le}
+use Rattle.std.specs.Prelude.{◌≡◌, ℕ, ◌-◌, Bool, true, cond, ◌⊎◌, List, [], ◌∷◌, ◌++◌, length, replicate, Some, None, Option, nat_le}
 use Rattle.std.specs.List.{slice_get}
 use Rattle.rows.specs.First.{first_from}
 use Rattle.tray.specs.Parts.{same_text}
@@ -11,8 +11,7 @@ use Rattle.tree.specs.Elements.{Tree}
 use Rattle.meaning.specs.Things.{Thing, name, Drawers, Held, nil, boolean, whole, text, with_variable}
 use Rattle.meaning.specs.Hosts.{Host}
 use Rattle.meaning.specs.Frames.{TrailRecord, sixteen}
-use Rattle.meaning.specs.Acts.{Fault, End, gives, stops, Step, step, Act, ◌and_then◌, pure, alter}
-use Rattle.meaning.specs.Looking.{World}
+use Rattle.meaning.specs.Acts.{Fault, gives, stops, Step, step, Act, ◌and_then◌, pure, alter}
 use Rattle.meaning.specs.Leaves.{Flow, onward}
 use Rattle.meaning.specs.Rendering.{render}
 use Rattle.meaning.specs.Sharing.{reads, writes}

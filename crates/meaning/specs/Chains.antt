@@ -1,5 +1,5 @@
 -- Filters: each is applied in turn to the value so far.
-use Rattle.std.specs.Prelude.{ℕ, Bool, true, false, cond, List, [], ◌∷◌, length, Some, None, Ok, Err, Option, Result, nat_le}
+use Rattle.std.specs.Prelude.{ℕ, cond, List, [], ◌∷◌, length, Some, None, Ok, Err, Option, Result, nat_le}
 use Rattle.banks.specs.declared.causes.Cause.{Cause}
 use Rattle.banks.specs.Causes.{number_of}
 use Rattle.banks.specs.Meaning.{Given, a_number, a_text, Meaning}

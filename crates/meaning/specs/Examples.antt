@@ -1,10 +1,10 @@
 -- Small templates, each with its source above it, and the host data that they are rendered with.
-use Rattle.std.specs.Prelude.{ℕ, Bool, true, false, List, [], ◌∷◌, ℤ, pos, negsuc, Some, None, codes, Option}
+use Rattle.std.specs.Prelude.{ℕ, Bool, true, false, List, [], ◌∷◌, ℤ, pos, Some, None, codes, Option}
 use Rattle.tray.specs.declared.records.Record.TheVariants.{Text, Array, Object}
-use Rattle.tree.specs.Expressions.{forloop, named, key, Expr, boolean_literal, number_literal, text_literal, path, Chain, row_from}
+use Rattle.tree.specs.Expressions.{forloop, named, key, Expr, boolean_literal, number_literal, path, row_from}
 use Rattle.tree.specs.Conditions.{equals, exists, compares, only, both, either}
 use Rattle.tree.specs.Elements.{Leaf, plain, output, increment, decrement, cycle, break}
-use Rattle.tree.specs.Elements.{if_block, for_block, tablerow_block, capture_block, ifchanged_block, holds, has_items, always, Tree, done, leaf, block, Arms, no_arms, arm}
+use Rattle.tree.specs.Elements.{if_block, for_block, tablerow_block, capture_block, ifchanged_block, holds, has_items, always, Tree, done, leaf, block, no_arms, arm}
 use Rattle.meaning.specs.Hosts.{Host}
 
 -- `l` is an array of the texts a, b, c

@@ -1,5 +1,5 @@
 -- For each fault a template that gives it (25 is among the worked cases), with its source above it.
-use Rattle.std.specs.Prelude.{◌≡◌, ℕ, ◌-◌, ◌^◌, Bool, true, false, List, [], ◌∷◌, ◌++◌, length, replicate, ℤ, pos, negsuc, Some, None, codes, Option}
+use Rattle.std.specs.Prelude.{◌≡◌, ℕ, ◌-◌, ◌^◌, true, false, List, [], ◌∷◌, ◌++◌, length, replicate, ℤ, pos, negsuc, Some, None, codes, Option}
 use Rattle.banks.specs.Joined.{nothing}
 use Rattle.banks.specs.Meaning.{Meaning}
 use Rattle.banks.specs.Sums.{sums}

@@ -1,5 +1,5 @@
 -- The open blocks around an element: they bind loop variables and loop objects, and they are the trail of a fault.
-use Rattle.std.specs.Prelude.{ℕ, zero, suc, ◌+◌, ◌-◌, ◌/◌, ◌%◌, Bool, true, false, cond, ◌||◌, List, [], ◌∷◌, ◌++◌, map, take, replicate, ℤ, pos, negsuc, Some, None, codes, Option, ◌==◌}
+use Rattle.std.specs.Prelude.{ℕ, ◌+◌, ◌-◌, ◌/◌, ◌%◌, Bool, false, cond, ◌||◌, List, [], ◌∷◌, ◌++◌, map, take, replicate, ℤ, pos, negsuc, Some, None, codes, Option, ◌==◌}
 use Rattle.tray.specs.Parts.{same_text}
 use Rattle.meaning.specs.Things.{Held, nil, boolean, whole}
 

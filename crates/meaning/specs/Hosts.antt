@@ -1,5 +1,5 @@
 -- Host data: the records and the text of a tray, and held values read in it.
-use Rattle.std.specs.Prelude.{ℕ, zero, suc, ◌+◌, ◌-◌, Bool, true, false, cond, List, [], length, ℤ, pos, negsuc, Some, None, codes, Option, nat_lt}
+use Rattle.std.specs.Prelude.{ℕ, zero, suc, ◌+◌, cond, List, length, ℤ, pos, negsuc, Some, None, codes, Option, nat_lt}
 use Rattle.std.specs.Option.{option_map, option_or}
 use Rattle.numerals.specs.Decimal.{whole_text}
 use Rattle.tray.specs.declared.records.Record.{Record}
@@ -8,7 +8,7 @@ use Rattle.tray.specs.Parts.{cut, same_text}
 use Rattle.tray.specs.Sound.{at}
 use Rattle.values.specs.Numbers.{place_of}
 use Rattle.values.specs.Meaning.{value_at, key_at}
-use Rattle.values.specs.RowsOf.{paired, stepping}
+use Rattle.values.specs.RowsOf.{paired}
 use Rattle.values.specs.Value.{Value}
 use Rattle.values.specs.Value as tree
 use Rattle.tree.specs.Expressions.{Step, index, key}

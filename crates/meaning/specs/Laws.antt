@@ -1,5 +1,5 @@
 -- Laws of calls and of rendered text.
-use Rattle.std.specs.Prelude.{◌≡◌, ℕ, ◌≤◌, List, [], ◌++◌, length, Option}
+use Rattle.std.specs.Prelude.{◌≡◌, ℕ, ◌≤◌, List, ◌++◌, length, Option}
 use Rattle.banks.specs.Meaning.{Meaning}
 use Rattle.tree.specs.Elements.{Tree}
 use Rattle.meaning.specs.Things.{Thing, Drawers}
@@ -8,7 +8,7 @@ use Rattle.meaning.specs.Frames.{Frames, TrailRecord}
 use Rattle.meaning.specs.Acts.{Fault}
 use Rattle.meaning.specs.Looking.{World}
 use Rattle.meaning.specs.Rendering.{render}
-use Rattle.meaning.specs.Calls.{Sheet, Call, page, refusal, judged, call_reads, call_writes, In, Clash, Result, refused, rendered, text_after, perform}
+use Rattle.meaning.specs.Calls.{Sheet, Call, page, refusal, judged, call_reads, call_writes, In, Clash, refused, rendered, text_after, perform}
 
 -- a call changes only what it writes
 abbrev pub ChangesOnlyWhatItWrites : Type 0

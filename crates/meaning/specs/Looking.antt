@@ -1,5 +1,5 @@
 -- What a value in a template means: where a name is sought, steps, and the faults 21 and 30.
-use Rattle.std.specs.Prelude.{ℕ, Bool, true, false, cond, List, [], ◌∷◌, ℤ, Some, None, Option, slice_index_or}
+use Rattle.std.specs.Prelude.{ℕ, List, [], ◌∷◌, ℤ, Some, None, Option, slice_index_or}
 use Rattle.std.specs.Option.{option_map, option_or}
 use Rattle.numerals.specs.Decimal.{whole_of}
 use Rattle.values.specs.Value.{written}

@@ -1,15 +1,14 @@
 -- Cases of lookup, steps, comparisons, `contains`, interrupts and tables.
-use Rattle.std.specs.Prelude.{◌≡◌, ℕ, Bool, true, false, List, [], ◌∷◌, replicate, ℤ, pos, negsuc, Some, None, codes, Option}
+use Rattle.std.specs.Prelude.{◌≡◌, ℕ, true, false, List, [], ◌∷◌, ℤ, pos, negsuc, None, codes, Option}
 use Prim.Native.String.{String}
 use Rattle.banks.specs.Joined.{nothing}
 use Rattle.banks.specs.Operands.{Datum}
 use Rattle.banks.specs.Operands as operand
-use Rattle.tree.specs.Expressions.{tablerowloop, named, Step, index, key, Expr, nil_literal, boolean_literal, number_literal, text_literal, path, row_from, range}
+use Rattle.tree.specs.Expressions.{tablerowloop, named, Step, index, key, Expr, nil_literal, boolean_literal, number_literal, text_literal, path, row_from}
 use Rattle.tree.specs.Conditions.{Comparison, equals, differs, is_less, is_more, at_most, at_least, contains, exists, compares, only}
-use Rattle.tree.specs.Elements.{Leaf, plain, output, assign, increment, break, continue, if_block, for_block, tablerow_block, capture_block, ifchanged_block, holds, fails, has_items, always, Tree, done, leaf, block, no_arms, arm}
+use Rattle.tree.specs.Elements.{plain, output, increment, break, continue, if_block, for_block, tablerow_block, capture_block, holds, fails, has_items, always, Tree, done, leaf, block, no_arms, arm}
 use Rattle.meaning.specs.Things.{unset}
-use Rattle.meaning.specs.Frames.{blank}
-use Rattle.meaning.specs.Calls.{put, accepted, rendered, run}
+use Rattle.meaning.specs.Calls.{put, accepted, run}
 use Rattle.meaning.specs.Examples.{bare_name, shown_name, a_number}
 use Rattle.meaning.specs.Worked.{sheet, ticket_into, says, Says}
 use Rattle.meaning.specs.FaultCases.{Faults, one_leaf, asks}

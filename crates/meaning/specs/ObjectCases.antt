@@ -1,9 +1,9 @@
 -- Cases over a tray in which `l` is an object: its key a has the number 1, its key 7 the text z.
-use Rattle.std.specs.Prelude.{◌≡◌, ℕ, Bool, true, false, List, [], ◌∷◌, length, ℤ, pos, negsuc, Some, None, codes, Option}
+use Rattle.std.specs.Prelude.{◌≡◌, [], ◌∷◌, length, pos, negsuc, codes}
 use Prim.Native.String.{String}
 use Rattle.banks.specs.Joined.{nothing}
 use Rattle.tray.specs.declared.records.Record.TheVariants.{Whole, Text, Object}
-use Rattle.tree.specs.Expressions.{named, index, key, row_from, path}
+use Rattle.tree.specs.Expressions.{named, index, key, path}
 use Rattle.tree.specs.Conditions.{equals, contains}
 use Rattle.tree.specs.Elements.{plain, output, assign, Tree, done, leaf}
 use Rattle.meaning.specs.Things.{unset}

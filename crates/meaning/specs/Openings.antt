@@ -1,5 +1,5 @@
 -- What a block evaluates when it is opened.
-use Rattle.std.specs.Prelude.{ℕ, Bool, true, false, cond, List, [], ◌∷◌, map, length, ℤ, pos, negsuc, Some, None, Option, nat_le}
+use Rattle.std.specs.Prelude.{ℕ, false, cond, List, [], ◌∷◌, map, length, ℤ, pos, negsuc, Some, None, Option, nat_le}
 use Rattle.std.specs.Option.{unwrap_or}
 use Rattle.rows.specs.Counted.{between, how_many}
 use Rattle.rows.specs.Windows.{windowed}

@@ -3,7 +3,7 @@ use Rattle.std.specs.Prelude.{◌≡◌, ℕ, ◌<◌, List, length, Some}
 use Rattle.std.specs.List.{slice_get}
 use Rattle.banks.specs.Meaning.{Meaning}
 use Rattle.meaning.specs.Things.{Thing, Drawers}
-use Rattle.meaning.specs.Calls.{Sheet, Call, Clash, Result, run}
+use Rattle.meaning.specs.Calls.{Sheet, Call, Clash, run}
 
 -- `p` has each index below `n` at exactly one place, and nothing else
 pub record Arrangement (n : ℕ) (p : List ℕ) : Type 0 where

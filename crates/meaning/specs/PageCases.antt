@@ -1,17 +1,17 @@
 -- The examples of the pages on order, formats and filters, and cases of loop objects, `case` and held values.
-use Rattle.std.specs.Prelude.{◌≡◌, ℕ, Bool, true, false, List, [], ◌∷◌, replicate, ℤ, pos, negsuc, Some, None, codes, Option}
+use Rattle.std.specs.Prelude.{◌≡◌, ℕ, false, List, [], ◌∷◌, replicate, pos, negsuc, Some, None, codes}
 use Rattle.banks.specs.Joined.{nothing}
 use Rattle.banks.specs.Operands as operand
 use Rattle.banks.specs.Sums.{sums}
 use Rattle.tray.specs.declared.records.Record.TheVariants.{Text, Object}
-use Rattle.tree.specs.Expressions.{forloop, tablerowloop, key, Expr, number_literal, text_literal, path, row_from, range}
+use Rattle.tree.specs.Expressions.{forloop, tablerowloop, key, number_literal, text_literal, path, range}
 use Rattle.tree.specs.Conditions.{equals, compares, only}
 use Rattle.tree.specs.Elements.{Leaf, plain, output, assign, if_block, case_block, for_block, tablerow_block, ifchanged_block, holds, equals_one, has_items, always, Tree, done, leaf, block, no_arms, arm}
 use Rattle.meaning.specs.Things.{unset}
 use Rattle.meaning.specs.Hosts.{Host}
 use Rattle.meaning.specs.Frames.{blank, stands}
 use Rattle.meaning.specs.Calls.{put, page, refused, accepted, rendered, run}
-use Rattle.meaning.specs.Examples.{abc, bare_name, shown_name, a_number, watched}
+use Rattle.meaning.specs.Examples.{abc, bare_name, shown_name, watched}
 use Rattle.meaning.specs.Worked.{sheet, ticket_into, says, faulted, Says}
 use Rattle.meaning.specs.FaultCases.{one_leaf, filtered}
 

@@ -1,5 +1,5 @@
 -- What a template means.
-use Rattle.std.specs.Prelude.{ℕ, cond, List}
+use Rattle.std.specs.Prelude.{ℕ, cond}
 use Rattle.tree.specs.Elements.{Block, Tree, done, leaf, block, Arms, no_arms, arm}
 use Rattle.meaning.specs.Frames.{Frames}
 use Rattle.meaning.specs.Acts.{Act, ◌and_then◌, pure}

@@ -1,5 +1,5 @@
 -- What a loop may go over, as a list of values.
-use Rattle.std.specs.Prelude.{ℕ, ◌+◌, List, [], ◌∷◌, map, ℤ, Some, None, Option}
+use Rattle.std.specs.Prelude.{◌+◌, List, [], ◌∷◌, map, Some, None, Option}
 use Rattle.tray.specs.declared.records.Record.{Record}
 use Rattle.tray.specs.declared.records.Record.TheVariants.{Nil, Boolean, Whole, Text, Array, Object}
 use Rattle.tray.specs.Sound.{at}

@@ -1,5 +1,5 @@
 -- What a template reads and writes: lists of things, taken from its tree as it stands, whether an arm is taken or not.
-use Rattle.std.specs.Prelude.{ℕ, List, [], ◌∷◌, ◌++◌, Some, None, Option}
+use Rattle.std.specs.Prelude.{List, [], ◌∷◌, ◌++◌, Some, None, Option}
 use Rattle.tree.specs.Expressions.{Head, forloop, tablerowloop, named, Expr, nil_literal, boolean_literal, number_literal, text_literal, path, Filter, Chain, Row, row_from, range}
 use Rattle.tree.specs.Conditions.{Test, exists, compares, Condition, only, both, either}
 use Rattle.tree.specs.Elements.{Leaf, plain, output, assign, increment, decrement, cycle, break, continue}

@@ -2,10 +2,9 @@
 use Rattle.std.specs.Prelude.{ℕ, Bool, true, false, cond, not, ◌&&◌, ◌||◌, List, [], ◌∷◌, length, ℤ, is_some, Some, None, Option, ◌==◌, int_lt, nat_le, nat_lt}
 use Rattle.values.specs.Value.{Value, Items, Entries, equal}
 use Rattle.values.specs.Value as tree
-use Rattle.tree.specs.Expressions.{Expr}
 use Rattle.tree.specs.Conditions.{Comparison, equals, differs, is_less, is_more, at_most, at_least, contains, Test, exists, compares, Condition, only, both, either}
 use Rattle.meaning.specs.Things.{Held, nil, boolean, whole, text, array, object, pair}
-use Rattle.meaning.specs.Hosts.{Host, value_of}
+use Rattle.meaning.specs.Hosts.{value_of}
 use Rattle.meaning.specs.Frames.{Frames, Met, value, loop}
 use Rattle.meaning.specs.Acts.{Act, ◌and_then◌, pure, faults}
 use Rattle.meaning.specs.Looking.{World, reach, eval, text_of}

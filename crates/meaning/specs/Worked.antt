@@ -1,9 +1,9 @@
 -- Worked cases: what the examples give.
-use Rattle.std.specs.Prelude.{◌≡◌, ℕ, Bool, true, false, List, [], ◌∷◌, ◌++◌, length, replicate, ℤ, pos, negsuc, Some, None, codes, Option}
+use Rattle.std.specs.Prelude.{◌≡◌, ℕ, true, false, List, [], ◌∷◌, ◌++◌, length, replicate, pos, negsuc, Some, None, codes}
 use Prim.Native.String.{String}
 use Rattle.banks.specs.Joined.{nothing}
 use Rattle.tree.specs.Elements.{Tree}
-use Rattle.meaning.specs.Things.{name, cycle_name, Drawers, unset}
+use Rattle.meaning.specs.Things.{name, cycle_name, unset}
 use Rattle.meaning.specs.Frames.{TrailRecord, blank, stands}
 use Rattle.meaning.specs.Calls.{Sheet, Call, page, Clash, Result, rendered, run}
 use Rattle.meaning.specs.Examples.{abc, names, a_number, show_n, count_n, count_m, count_down_n, cycle_of_three, cycle_of_two, table_of_two, broken_table, grouped, not_asked, window_of, counted_visits, broken_at_once, captured, watched, fault_inside}

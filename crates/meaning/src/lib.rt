@@ -1,4 +1,7 @@
 // What a ticket means. The definitions are in specs/; the functions here stand for theorems about them.
+
+#![tactic(auto)]
+
 ghost use Rattle.meaning.specs.FaultCases.{FaultCases};
 ghost use Rattle.meaning.specs.Laws.{ChangesOnlyWhatItWrites, DependsOnlyOnWhatItReads, WithoutAClashTheyCommute, RefusedCallsTouchNothing, RenderingOnlyAdds, TicketsAreWhole};
 ghost use Rattle.meaning.specs.MoreCases.{MoreCases};

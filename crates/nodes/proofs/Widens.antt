@@ -1,7 +1,6 @@
 -- What tables stand for stays when they grow.
-use Rattle.std.proofs.Common.{◌≡◌, ℕ, zero, suc, ◌+◌, ◌-◌, ◌<◌, ◌≤◌, Bool, true, false, cond, ◌&&◌, eqb, ltb, leb, List, [], ◌∷◌, ◌++◌, length, Some, None, Option, sym, refl, ap, ◌∙◌, arith}
-use Rattle.std.proofs.lemmas.Bool.{ltb-true, lt-ltb, leb-true, and_parts, eqb-false, eqb-true}
-use Rattle.std.specs.Option.{option_map}
+use Rattle.std.proofs.Common.{◌≡◌, ℕ, zero, suc, ◌+◌, ◌-◌, ◌<◌, ◌≤◌, Bool, true, false, cond, ◌&&◌, eqb, ltb, leb, List, Some, Option, refl, ap, ◌∙◌, arith}
+use Rattle.std.proofs.lemmas.Bool.{ltb-true, lt-ltb, leb-true, and_parts}
 use Rattle.std.specs.List.{slice_get}
 use Rattle.tree.specs.Elements.{Tree, done, leaf, block, Arms, no_arms, arm}
 use Rattle.tree.specs.Elements as tree
@@ -29,9 +28,9 @@ use Rattle.nodes.specs.declared.table.Next.TheVariants as next
 use Rattle.nodes.specs.declared.table.Arm.{Arm}
 use Rattle.nodes.specs.declared.table.Node.{Node}
 use Rattle.nodes.specs.declared.table.Node.TheVariants as node
-use Rattle.nodes.specs.Exprs.{Pool, ◌so◌, where_so, only, each, if_any, bytes_of, entries, comparison_of, head_of, step_of, expr_of, filter_of, chain_of, values_of, row_of}
-use Rattle.nodes.specs.Trees.{numbered, leaf_of, block_of, test_of, join_of, condition_of, guard_of, arm_of, arm_at, opens, element_at, elements_of, arms_of}
-use Rattle.nodes.specs.Wider.{Front, Wider, Agree, Keeps}
+use Rattle.nodes.specs.Exprs.{Pool, ◌so◌, where_so, only, each, if_any, bytes_of, entries, head_of, step_of, expr_of, filter_of, chain_of, values_of, row_of}
+use Rattle.nodes.specs.Trees.{leaf_of, block_of, test_of, join_of, condition_of, guard_of, arm_of, arm_at, opens, element_at, elements_of, arms_of}
+use Rattle.nodes.specs.Wider.{Wider, Agree, Keeps}
 use Rattle.nodes.proofs.Options.{so_parts, where_parts, only_parts, keeps_refl, keeps_same, keeps_so, keeps_where, keeps_only, keeps_mapped, keeps_each, keeps_if_any, keeps_entries, front_refl, front_then}
 
 pub wider_refl : (b : Pool) → Wider b b

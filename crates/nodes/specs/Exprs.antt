@@ -1,5 +1,5 @@
 -- What the entries of the tables stand for. Nothing, where a part leaves the source, or a number or an entry is not there.
-use Rattle.std.specs.Prelude.{ℕ, ◌+◌, Bool, true, false, cond, List, [], ◌∷◌, length, take, drop, ℤ, Some, None, Option, nat_le, nat_lt}
+use Rattle.std.specs.Prelude.{ℕ, ◌+◌, Bool, true, false, List, [], ◌∷◌, length, take, drop, Some, None, Option, nat_le, nat_lt}
 use Rattle.std.specs.Option.{option_map}
 use Rattle.tree.specs.Expressions as tree
 use Rattle.tree.specs.Conditions as condition

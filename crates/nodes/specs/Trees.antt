@@ -1,11 +1,10 @@
 -- The tree that nodes of the table stand for. Nothing, where they stand for none.
-use Rattle.std.specs.Prelude.{ℕ, zero, suc, ◌+◌, ◌-◌, ◌*◌, Bool, true, false, cond, ◌&&◌, List, [], ◌∷◌, length, Some, None, Option, ◌==◌, nat_le, nat_lt}
+use Rattle.std.specs.Prelude.{ℕ, zero, suc, ◌+◌, ◌-◌, ◌*◌, Bool, cond, ◌&&◌, List, length, Some, None, Option, ◌==◌, nat_le, nat_lt}
 use Rattle.std.specs.Option.{option_map}
 use Rattle.std.specs.List.{slice_get}
 use Rattle.tree.specs.Conditions.{Test, exists, compares, Condition, only as lone, both, either}
 use Rattle.tree.specs.Elements as tree
 use Rattle.tree.specs.Elements.{Tree, done, leaf, block, Arms, no_arms, arm}
-use Rattle.nodes.specs.declared.exprs.Expr.{Expr}
 use Rattle.nodes.specs.declared.table.Leaf.{Leaf}
 use Rattle.nodes.specs.declared.table.Leaf.TheVariants.{Plain, Output, Assign, Increment, Decrement, Cycle, Break, Continue}
 use Rattle.nodes.specs.declared.table.Block.{Block}

@@ -4,7 +4,7 @@ use lib.Signed.{lt_z}
 use Rattle.std.specs.Option.{option_map}
 use Rattle.std.proofs.lemmas.List.{drop_all, drop_more}
 use Rattle.std.proofs.lemmas.Bool.{le-leb, lt-leb, le-ltb, leb-false, and_from, and_left, and_right, cond-true, cond-false, eq-eqb, ne_eqb}
-use Rattle.numerals.specs.Decimal.{is_digit, are_digits, value_after, natural_of, signed_of, fits, if_fits, whole_of}
+use Rattle.numerals.specs.Decimal.{is_digit, are_digits, value_after, natural_of, fits, if_fits, whole_of}
 use Rattle.numerals.specs.Bounds.{at_most}
 
 -- what digits come to after others of the value n

@@ -1,7 +1,7 @@
 -- The decimal text of a natural number, by its last digit, and what a loop that writes it from the back has yet to do.
 use Rattle.std.proofs.Common.{◌≡◌, ℕ, suc, ◌+◌, ◌-◌, ◌/◌, ◌%◌, ◌^◌, ◌<◌, ◌≤◌, true, false, List, [], ◌∷◌, ◌++◌, length, take, drop, set, ℤ, pos, negsuc, nat_abs, Some, None, decimal, Option, sym, refl, ap, ◌∙◌, add-one, arith, w64, SFits, to_z, of_z, rules, MatchOption}
 use lib.Signed.{le_z}
-use Rattle.std.proofs.lemmas.Fmt.{decimal_from_appends, decimal_digit, decimal_step, length-decimal-le, length-decimal-le_succ, first_decimal, decimal_nonempty}
+use Rattle.std.proofs.lemmas.Fmt.{decimal_from_appends, decimal_digit, decimal_step, length-decimal-le, length-decimal-le_succ, decimal_nonempty}
 use Rattle.std.proofs.lemmas.List.{append_assoc, length_push, length-set, take-set-le, drop-set, set_split}
 use Rattle.std.proofs.lemmas.Int.{to_z-of_z}
 use Rattle.std.proofs.lemmas.Bool.{leb-false}

@@ -1,5 +1,7 @@
 //! The decimal text of a whole number, and a whole number read from a text.
 
+#![tactic(auto)]
+
 ghost use Rattle.std.specs.Prelude.{◌≡◌, ◌+◌, ◌^◌, ◌<◌, ◌≤◌, ◌++◌, length, take, drop, pos, neg_ℤ, MatchOption};
 ghost use Rattle.std.specs.Option.{option_map};
 ghost use Rattle.numerals.specs.Decimal.{natural_text, whole_text, natural_of, if_fits, whole_of};

@@ -14,7 +14,7 @@ fn after(room: usize, n: usize) -> Option<usize>
 }
 
 // What is left of `room` after the text of the record i.
-#[cycle(left_after_left_after_entries_left_after_items)]
+#[cycle(left_after_values)]
 fn left_after(tray: &Tray, i: usize, room: usize) -> Option<usize>
     ensures { result ≡ leaves room (length (written (value_of tray.now i))) }
 {
@@ -25,7 +25,7 @@ fn left_after(tray: &Tray, i: usize, room: usize) -> Option<usize>
     }
 }
 
-#[cycle(left_after_left_after_entries_left_after_items)]
+#[cycle(left_after_values)]
 fn left_after_items(
     tray: &Tray,
     holder: usize,
@@ -46,7 +46,7 @@ fn left_after_items(
     Some(left)
 }
 
-#[cycle(left_after_left_after_entries_left_after_items)]
+#[cycle(left_after_values)]
 fn left_after_entries(
     tray: &Tray,
     holder: usize,

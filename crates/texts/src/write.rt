@@ -33,7 +33,7 @@ fn leaf_at(tray: &Tray, i: usize, out: &mut [u8], from: usize) -> usize
 }
 
 // The same with the text of the record i.
-#[cycle(fill_fill_entries_fill_items)]
+#[cycle(fill_values)]
 fn fill(tray: &Tray, i: usize, out: &mut [u8], from: usize) -> usize
     requires { from + length (written (value_of tray.now i)) ≤ length out.old }
     ensures { LaidAt from (written (value_of tray.now i)) out.old out.new result }
@@ -45,7 +45,7 @@ fn fill(tray: &Tray, i: usize, out: &mut [u8], from: usize) -> usize
     }
 }
 
-#[cycle(fill_fill_entries_fill_items)]
+#[cycle(fill_values)]
 fn fill_items(
     tray: &Tray,
     holder: usize,
@@ -65,7 +65,7 @@ fn fill_items(
     end
 }
 
-#[cycle(fill_fill_entries_fill_items)]
+#[cycle(fill_values)]
 fn fill_entries(
     tray: &Tray,
     holder: usize,

@@ -1,9 +1,8 @@
 -- What is written for a record is what the format says of it.
-use Rattle.std.proofs.Common.{◌≡◌, ℕ, zero, suc, ◌+◌, ◌*◌, ◌/◌, ◌%◌, ◌^◌, ◌<◌, ◌≤◌, true, false, List, [], ◌∷◌, ◌++◌, length, sym, refl, ap, ◌∙◌, subst, arith, to_z-of_z, w64, SFits, to_z, of_z}
+use Rattle.std.proofs.Common.{◌≡◌, ℕ, suc, ◌+◌, ◌*◌, ◌/◌, ◌%◌, ◌<◌, ◌≤◌, true, false, [], ◌∷◌, sym, ap, ◌∙◌, subst, arith, to_z-of_z, w64, SFits, to_z, of_z}
 use native.Mathlib.Nat.{div-div-eq-div-mul, mod-add-div}
 use mir.Facts.{Fits-of_z}
-use Rattle.std.specs.List.{AllByRecursion as All}
-use Rattle.tray.specs.Format.{little, RecordBytes, a_nil, a_false, a_true, a_whole, a_text, an_array, an_object, TrayBytes, none, more}
+use Rattle.tray.specs.Format.{little, RecordBytes, a_nil, a_false, a_true, a_whole, a_text, an_array, an_object, none, more}
 use Rattle.tray.specs.declared.records.Record.{Record}
 use Rattle.tray.specs.declared.records.Record.TheVariants.{Nil, Boolean, Whole, Text, Array, Object}
 use Rattle.ticket.specs.Spelling.{low_first, spelt, Sayable, ReadAsWritten}

@@ -145,16 +145,16 @@ fn read_line(rt: &HostRuntime, line: &[u8]) -> Result<Option<Action>, LineError>
     }
     let at = cursor.at();
     let word = cursor.word();
-    if word == b"host" {
+    if word == b"host".as_slice() {
         Ok(Some(read_host(rt.alloc(), cursor)?))
-    } else if word == b"tray" {
+    } else if word == b"tray".as_slice() {
         Ok(Some(read_tray(rt, cursor)?))
-    } else if word == b"show" {
+    } else if word == b"show".as_slice() {
         end_line(cursor)?;
         Ok(Some(Action::Show))
-    } else if word == b"phrases" {
+    } else if word == b"phrases".as_slice() {
         Ok(Some(read_phrases(rt.alloc(), cursor)?))
-    } else if word == b"filter" {
+    } else if word == b"filter".as_slice() {
         Ok(Some(read_filter(rt.alloc(), cursor)?))
     } else {
         Err(LineError::Bad(at, LineFault::UnknownWord))

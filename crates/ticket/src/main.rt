@@ -1,5 +1,7 @@
 //! ticket JOB: does the actions of a job, which is read from the file JOB or from standard input.
 
+#![tactic(auto)]
+
 mod cursor;
 mod filter;
 mod job;
@@ -41,7 +43,7 @@ fn ticket(rt: &HostRuntime) -> anyhow::Result<()> {
         ) => {
             let words = fault.words();
             let message = format!(in rt.alloc(); "line {line}, column {column}: {words}")?;
-            Err(message.into())
+            Err(anyhow!(message))
         }
     }
 }

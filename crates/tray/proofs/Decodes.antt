@@ -1,8 +1,8 @@
 -- One step of the reading of a tray's bytes.
-use Rattle.std.proofs.Common.{◌≡◌, ℕ, zero, suc, ◌+◌, ◌-◌, ◌<◌, ◌≤◌, List, [], ◌∷◌, ◌++◌, length, Some, None, Option, sym, refl, ap, ◌∙◌, append_assoc, arith}
+use Rattle.std.proofs.Common.{◌≡◌, ℕ, zero, suc, ◌<◌, List, [], ◌∷◌, ◌++◌, length, Some, None, Option, sym, refl, ap, ◌∙◌, append_assoc, arith}
 use Rattle.std.proofs.lemmas.List.{append-nil}
 use Rattle.tray.specs.declared.records.Record.{Record}
-use Rattle.tray.specs.Decode.{Got, stop, got, one, decoded, before, onto, go_on}
+use Rattle.tray.specs.Decode.{stop, got, one, decoded, before, onto, go_on}
 
 pub onto_more : (rs : List Record) (r : Record) (o : Option (List Record)) → onto rs (before r o) ≡ onto (rs ++ r ∷ []) o
 onto_more rs r None = refl

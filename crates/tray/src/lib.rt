@@ -1,4 +1,7 @@
 // Host data: records that a host lays out as bytes, and the text that they cite.
+
+#![tactic(auto)]
+
 mod decode;
 mod holders;
 mod judging;

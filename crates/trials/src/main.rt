@@ -1,5 +1,7 @@
 //! Runs the cases of cases.txt: each line has a call with its arguments, and behind ` = ` its answer.
 
+#![tactic(auto)]
+
 mod calls;
 mod cutting;
 mod reading;

@@ -1,11 +1,11 @@
 -- Steps into what records hold.
 use Rattle.std.proofs.Common.{◌≡◌, ℕ, zero, suc, ◌+◌, ◌-◌, ◌<◌, ◌≤◌, Bool, true, false, cond, ltb, List, ℤ, pos, negsuc, Some, None, codes, Option, sym, refl, ap, ◌∙◌, ⊎_elim, arith}
 use Rattle.std.specs.Option.{option_map}
-use Rattle.std.proofs.lemmas.Bool.{cases_Bool, cond-true, cond-false, ltb-true, ltb-false, lt-ltb, le-ltb}
+use Rattle.std.proofs.lemmas.Bool.{cases_Bool, cond-true, cond-false, ltb-true, ltb-false}
 use Rattle.tray.specs.declared.records.Record.{Record}
 use Rattle.tray.specs.declared.records.Record.TheVariants.{Nil, Boolean, Whole, Text, Array, Object}
 use Rattle.tray.specs.Parts.{same_text}
-use Rattle.values.specs.Value.{Value, whole, Items, Entries, find}
+use Rattle.values.specs.Value.{Value, whole}
 use Rattle.tray.specs.Sound.{at, Behind}
 use Rattle.values.specs.Meaning.{items_from, entries_from, shape, key_at, value_at}
 use Rattle.values.proofs.Unfolds.{stands}

@@ -1,12 +1,12 @@
 -- What a record stands for, from what the records that it holds stand for.
-use Rattle.std.proofs.Common.{◌≡◌, ℕ, zero, suc, ◌+◌, ◌-◌, ◌*◌, ◌<◌, ◌≤◌, Bool, false, List, length, sym, refl, ap, ◌∙◌, subst, ap₂, ⊎_elim, arith}
+use Rattle.std.proofs.Common.{◌≡◌, ℕ, zero, suc, ◌+◌, ◌-◌, ◌*◌, ◌<◌, ◌≤◌, Bool, false, List, length, sym, refl, ap, ◌∙◌, ap₂, ⊎_elim, arith}
 use Rattle.std.proofs.lemmas.List.{get_or_past}
 use Rattle.std.proofs.lemmas.Bool.{cases_lt}
 use Rattle.tray.specs.declared.records.Record.{Record}
 use Rattle.tray.specs.declared.records.Record.TheVariants.{Nil, Boolean, Whole, Text, Array, Object}
 use Rattle.tray.specs.Parts.{key_of}
-use Rattle.tray.specs.Sound.{at, first_of, width_of, Holds, Behind, Inside}
-use Rattle.values.specs.Value.{Value, nil, array, object, item, entry, Items, Entries, equal, is_text, is_array, is_object}
+use Rattle.tray.specs.Sound.{at, first_of, width_of, Behind, Inside}
+use Rattle.values.specs.Value.{Value, nil, array, object, Items, Entries, equal, is_text, is_array, is_object}
 use Rattle.values.specs.Meaning.{items_from, entries_from, shape, key_at, value_to, value_at, Below}
 
 items_same : (f g : ℕ → Value) (i n : ℕ) → ((c : ℕ) → i ≤ c → c < i + n → f c ≡ g c) → items_from f i n ≡ items_from g i n

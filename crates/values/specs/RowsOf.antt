@@ -1,5 +1,5 @@
 -- The values that a loop may go over, as lists.
-use Rattle.std.specs.Prelude.{ℕ, zero, suc, ◌+◌, List, [], ◌∷◌, map, Some, None, Option}
+use Rattle.std.specs.Prelude.{ℕ, zero, suc, ◌+◌, List, [], ◌∷◌, Some, None, Option}
 use Rattle.tray.specs.declared.trays.Tray.{Tray}
 use Rattle.values.specs.declared.rows.Held.{Held}
 use Rattle.values.specs.declared.rows.Pair.{Pair}

@@ -1,5 +1,5 @@
 -- Steps of a path: from a value to one that it holds, or to how many it holds.
-use Rattle.std.specs.Prelude.{ℕ, zero, suc, ◌+◌, ◌-◌, cond, List, ℤ, pos, negsuc, Some, None, codes, Option, nat_lt}
+use Rattle.std.specs.Prelude.{ℕ, zero, suc, ◌-◌, cond, List, ℤ, pos, negsuc, Some, None, codes, Option, nat_lt}
 use Rattle.numerals.specs.Decimal.{whole_text}
 use Rattle.tray.specs.Parts.{same_text}
 use Rattle.values.specs.Value.{Value, nil, boolean, whole, text, array, object, Items, none, item, Entries, empty, entry, find}

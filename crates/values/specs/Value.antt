@@ -1,5 +1,5 @@
 -- Host values as trees, when two are equal, and the text of one.
-use Rattle.std.specs.Prelude.{ℕ, Bool, true, false, cond, not, ◌&&◌, ◌||◌, List, [], ◌∷◌, ◌++◌, ℤ, pos, negsuc, is_some, Some, None, codes, Option, ◌==◌}
+use Rattle.std.specs.Prelude.{ℕ, Bool, true, false, cond, not, ◌&&◌, ◌||◌, List, [], ◌++◌, ℤ, pos, negsuc, is_some, Some, None, codes, Option, ◌==◌}
 use Rattle.numerals.specs.Decimal.{whole_text}
 use Rattle.tray.specs.Parts.{same_text}
 

@@ -5,15 +5,15 @@ use Rattle.equality.proofs.within.Goals as goal
 pub loop-j-init : goal.loop-j-init
 loop-j-init c = look_none _ _ _ _ _
 
-pub returns-then-is-none : goal.returns-then-is-none
-returns-then-is-none c =
-    let none : false ≡ is_some c.find-in.result = search rules in
-    look_stop c.loop-j.invariant _ _ _ c.text-of.ensures c.find-in.ensures.value none (omega arith)
+pub returns-then-is_none : goal.returns-then-is_none
+returns-then-is_none c =
+    let none : false ≡ is_some c.find_in.result = search rules in
+    look_stop c.loop-j.invariant _ _ _ c.text_of.ensures c.find_in.ensures.value none (omega arith)
 
 pub loop-j-preserved : goal.loop-j-preserved
 loop-j-preserved c =
-    let some : true ≡ is_some c.find-in.result = search rules in
-    look_more c.loop-j.invariant _ _ _ c.text-of.ensures c.find-in.ensures.value some (omega arith)
+    let some : true ≡ is_some c.find_in.result = search rules in
+    look_more c.loop-j.invariant _ _ _ c.text_of.ensures c.find_in.ensures.value some (omega arith)
 
 pub returns : goal.returns
 returns c = look_all c.loop-j.invariant (omega arith)

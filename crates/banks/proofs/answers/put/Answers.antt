@@ -9,4 +9,4 @@ over_zeros part text buffer k p e h =
     ap (λ xs. xs ++ drop k buffer) p ∙ ap (λ xs. text ++ drop k xs) h ∙ ap (λ xs. text ++ xs) (drop-replicate k 256 0) ∙ ap (λ n. text ++ replicate (256 - n) 0) e
 
 pub returns : goal.returns
-returns c = over_zeros _ c.args.text.now c.clear.new.answer (length c.args.text.now - 0) c.copy-from-slice.ensures.after (omega arith) c.clear.ensures
+returns c = over_zeros _ c.args.text.now c.clear.new.answer (length c.args.text.now - 0) c.copy_from_slice.ensures.after (omega arith) c.clear.ensures

@@ -1,7 +1,5 @@
-use Rattle.std.proofs.Common.{◌+◌, cond, ◌&&◌, ltb, sym, refl, ap, ◌∙◌, arith}
-use Rattle.std.proofs.lemmas.Bool.{cond-true, cond-false}
-use Rattle.cutter.specs.Lengths.{stands, bound_length, padded, value_length, run_at}
-use Rattle.cutter.specs.declared.lengths.Class.TheVariants.{Is}
+use Rattle.std.proofs.Common.{◌+◌, ap, ◌∙◌, arith}
+use Rattle.cutter.specs.Lengths.{bound_length, padded, value_length}
 use Rattle.cutter.proofs.Runs.{if_none, if_some}
 use Rattle.cutter.proofs.lengths.bound_length.Goals as goal
 
@@ -10,11 +8,11 @@ unfolding bound_length
 returns-then-n-eq0 c =
     let src = c.args.src.now in
     let at = c.args.at in
-    record { is = if_none _ _ c.if-n-eq0.true ∙ ap (λ n. padded src at c.run-blanks.result n) c.value-length-n.ensures.is ∙ ap (λ b. padded src at b (value_length src (at + b))) c.run-blanks.ensures.is; within = omega (arith, c.requires) }
+    record { is = if_none _ _ c.if-n-eq0.true ∙ ap (λ n. padded src at c.run-blanks.result n) c.value_length-n.ensures.is ∙ ap (λ b. padded src at b (value_length src (at + b))) c.run-blanks.ensures.is; within = omega (arith, c.requires) }
 
 pub returns : goal.returns
 unfolding bound_length
 returns c =
     let src = c.args.src.now in
     let at = c.args.at in
-    record { is = ap (λ r. c.run-blanks.result + c.value-length-n.result + r) c.run.ensures.is ∙ if_some c.value-length-n.result _ c.if-n-eq0.false ∙ ap (λ n. padded src at c.run-blanks.result n) c.value-length-n.ensures.is ∙ ap (λ b. padded src at b (value_length src (at + b))) c.run-blanks.ensures.is; within = omega (arith, c.run.ensures.within) }
+    record { is = ap (λ r. c.run-blanks.result + c.value_length-n.result + r) c.run.ensures.is ∙ if_some c.value_length-n.result _ c.if-n-eq0.false ∙ ap (λ n. padded src at c.run-blanks.result n) c.value_length-n.ensures.is ∙ ap (λ b. padded src at b (value_length src (at + b))) c.run-blanks.ensures.is; within = omega (arith, c.run.ensures.within) }

@@ -1,5 +1,4 @@
-use Rattle.std.proofs.Common.{◌+◌, cond, ◌&&◌, ltb, sym, refl, ap, ◌∙◌, arith}
-use Rattle.std.proofs.lemmas.Bool.{cond-true, cond-false}
+use Rattle.std.proofs.Common.{◌+◌, cond, ◌&&◌, ap, ◌∙◌, arith}
 use Rattle.cutter.specs.Lengths.{stands, dots_length, longer, closed}
 use Rattle.cutter.specs.declared.lengths.Class.TheVariants.{Is}
 use Rattle.cutter.proofs.Runs.{off_first, off_second, both_on, closed_none, closed_off, closed_on, stands_within}
@@ -24,18 +23,18 @@ unfolding dots_length
 returns-then-n-eq0 c =
     let src = c.args.src.now in
     let at = c.args.at in
-    record { is = closed_none src (at + 2) c.bound-length-n.result c.if-n-eq0.true ∙ both_on (stands (Is 46) src at) (stands (Is 46) src (at + 1)) (longer 2 (closed src (at + 2) c.bound-length-n.result)) c.if-not-stands.ensures c.if-not-stands-2.ensures ∙ ap (λ n. cond (stands (Is 46) src at && stands (Is 46) src (at + 1)) (longer 2 (closed src (at + 2) n)) 0) c.bound-length-n.ensures.is; within = omega (arith, c.requires) }
+    record { is = closed_none src (at + 2) c.bound_length-n.result c.if-n-eq0.true ∙ both_on (stands (Is 46) src at) (stands (Is 46) src (at + 1)) (longer 2 (closed src (at + 2) c.bound_length-n.result)) c.if-not-stands.ensures c.if-not-stands-2.ensures ∙ ap (λ n. cond (stands (Is 46) src at && stands (Is 46) src (at + 1)) (longer 2 (closed src (at + 2) n)) 0) c.bound_length-n.ensures.is; within = omega (arith, c.requires) }
 
 pub returns-then-stands : goal.returns-then-stands
 unfolding dots_length
 returns-then-stands c =
     let src = c.args.src.now in
     let at = c.args.at in
-    record { is = closed_on src (at + 2) c.bound-length-n.result c.if-n-eq0.false c.if-stands.ensures ∙ both_on (stands (Is 46) src at) (stands (Is 46) src (at + 1)) (longer 2 (closed src (at + 2) c.bound-length-n.result)) c.if-not-stands.ensures c.if-not-stands-2.ensures ∙ ap (λ n. cond (stands (Is 46) src at && stands (Is 46) src (at + 1)) (longer 2 (closed src (at + 2) n)) 0) c.bound-length-n.ensures.is; within = omega (arith, stands_within (Is 41) src (at + 2 + c.bound-length-n.result) c.if-stands.ensures) }
+    record { is = closed_on src (at + 2) c.bound_length-n.result c.if-n-eq0.false c.if-stands.ensures ∙ both_on (stands (Is 46) src at) (stands (Is 46) src (at + 1)) (longer 2 (closed src (at + 2) c.bound_length-n.result)) c.if-not-stands.ensures c.if-not-stands-2.ensures ∙ ap (λ n. cond (stands (Is 46) src at && stands (Is 46) src (at + 1)) (longer 2 (closed src (at + 2) n)) 0) c.bound_length-n.ensures.is; within = omega (arith, stands_within (Is 41) src (at + 2 + c.bound_length-n.result) c.if-stands.ensures) }
 
 pub returns-else-stands : goal.returns-else-stands
 unfolding dots_length
 returns-else-stands c =
     let src = c.args.src.now in
     let at = c.args.at in
-    record { is = closed_off src (at + 2) c.bound-length-n.result c.if-stands.ensures ∙ both_on (stands (Is 46) src at) (stands (Is 46) src (at + 1)) (longer 2 (closed src (at + 2) c.bound-length-n.result)) c.if-not-stands.ensures c.if-not-stands-2.ensures ∙ ap (λ n. cond (stands (Is 46) src at && stands (Is 46) src (at + 1)) (longer 2 (closed src (at + 2) n)) 0) c.bound-length-n.ensures.is; within = omega (arith, c.requires) }
+    record { is = closed_off src (at + 2) c.bound_length-n.result c.if-stands.ensures ∙ both_on (stands (Is 46) src at) (stands (Is 46) src (at + 1)) (longer 2 (closed src (at + 2) c.bound_length-n.result)) c.if-not-stands.ensures c.if-not-stands-2.ensures ∙ ap (λ n. cond (stands (Is 46) src at && stands (Is 46) src (at + 1)) (longer 2 (closed src (at + 2) n)) 0) c.bound_length-n.ensures.is; within = omega (arith, c.requires) }

@@ -1,7 +1,6 @@
-use Rattle.std.proofs.Common.{◌+◌, sym, refl, ap, ◌∙◌, arith, rules}
+use Rattle.std.proofs.Common.{◌+◌, sym, ap, ◌∙◌, arith}
 use Rattle.std.proofs.lemmas.Bool.{cond-true, cond-false}
 use Rattle.cutter.specs.Lengths.{name_length}
-use Rattle.cutter.proofs.Runs.{number_some, number_none, text_some, text_none, either_first, either_second, longer_some, longer_none}
 use Rattle.cutter.proofs.lengths.name_length.Goals as goal
 
 pub returns-then-stands : goal.returns-then-stands

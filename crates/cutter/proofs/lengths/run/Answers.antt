@@ -1,4 +1,4 @@
-use Rattle.std.proofs.Common.{sym, ap, ◌∙◌, arith, rules}
+use Rattle.std.proofs.Common.{sym, arith}
 use Rattle.cutter.proofs.Runs.{run_more, run_stops, run_ends}
 use Rattle.cutter.proofs.lengths.run.Goals as goal
 

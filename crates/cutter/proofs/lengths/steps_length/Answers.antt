@@ -1,4 +1,4 @@
-use Rattle.std.proofs.Common.{arith, rules}
+use Rattle.std.proofs.Common.{arith}
 use Rattle.cutter.proofs.Runs.{steps_more, steps_none}
 use Rattle.cutter.proofs.lengths.steps_length.Goals as goal
 
@@ -6,7 +6,7 @@ pub loop-n-preserved : goal.loop-n-preserved
 loop-n-preserved c =
     let (kept, is, low, high) = c.loop-n.invariant in
     let more = steps_more c.args.src.now c.loop-n.end c.loop-n.n is c.loop-n-test.true high in
-    (omega (arith, kept, more, low), c.step-length-n-in-loop-n.ensures.is, omega (arith, low), c.step-length-n-in-loop-n.ensures.within)
+    (omega (arith, kept, more, low), c.step_length-n-in-loop-n.ensures.is, omega (arith, low), c.step_length-n-in-loop-n.ensures.within)
 
 pub returns : goal.returns
 returns c =

@@ -1,4 +1,4 @@
-use Rattle.std.proofs.Common.{◌≡◌, ℕ, ◌+◌, ◌-◌, length, get_or, Some, None, Option, refl, ap, ◌∙◌, arith}
+use Rattle.std.proofs.Common.{◌≡◌, ℕ, ◌-◌, length, Option, ap, ◌∙◌, arith}
 use Rattle.cutter.specs.declared.lengths.Symbol.{Symbol}
 use Rattle.cutter.specs.Lengths.{symbol_length, symbol_of, fitting}
 use Rattle.cutter.proofs.Runs.{symbol_some, symbol_none}

@@ -1,7 +1,7 @@
-use Rattle.std.proofs.Common.{◌+◌, sym, refl, ap, ◌∙◌, arith, rules}
-use Rattle.std.proofs.lemmas.Bool.{cond-true, cond-false}
+use Rattle.std.proofs.Common.{sym, arith}
+use Rattle.std.proofs.lemmas.Bool.{cond-false}
 use Rattle.cutter.specs.Lengths.{text_length}
-use Rattle.cutter.proofs.Runs.{number_some, number_none, text_some, text_none, either_first, either_second, longer_some, longer_none}
+use Rattle.cutter.proofs.Runs.{text_some, text_none}
 use Rattle.cutter.proofs.lengths.text_length.Goals as goal
 
 pub returns-then-not-stands : goal.returns-then-not-stands

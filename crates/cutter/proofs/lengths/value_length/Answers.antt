@@ -4,8 +4,8 @@ use Rattle.cutter.proofs.lengths.value_length.Goals as goal
 
 pub returns-then-n-gt0 : goal.returns-then-n-gt0
 unfolding value_length
-returns-then-n-gt0 c = record { is = either_first _ _ _ c.path-length-n.ensures.is c.if-n-gt0.true; within = c.path-length-n.ensures.within }
+returns-then-n-gt0 c = record { is = either_first _ _ _ c.path_length-n.ensures.is c.if-n-gt0.true; within = c.path_length-n.ensures.within }
 
 pub returns-else-n-gt0 : goal.returns-else-n-gt0
 unfolding value_length
-returns-else-n-gt0 c = record { is = either_second _ _ _ _ c.path-length-n.ensures.is c.if-n-gt0.false c.key-length.ensures.is; within = c.key-length.ensures.within }
+returns-else-n-gt0 c = record { is = either_second _ _ _ _ c.path_length-n.ensures.is c.if-n-gt0.false c.key_length.ensures.is; within = c.key_length.ensures.within }

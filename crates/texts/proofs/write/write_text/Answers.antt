@@ -1,5 +1,4 @@
-use Rattle.std.proofs.Common.{◌≡◌, length, sym, refl, ap, arith}
-use Rattle.values.specs.Value.{written}
+use Rattle.std.proofs.Common.{refl}
 use Rattle.texts.proofs.LeafTexts.{leaf_is}
 use Rattle.texts.proofs.LeafTexts.{array_text_joined}
 use Rattle.texts.proofs.Fills.{lay_front, lays_as}
@@ -12,5 +11,5 @@ returns-in-Some c = record { written = lay_front c.fill.ensures; joined = array_
 pub returns-in-None : goal.returns-in-None
 returns-in-None c = record { written = record { short = room_none _ _ c.in-None.ensures; same = refl }; joined = array_text_joined }
 
-pub returns-in-default : goal.returns-in-default
-returns-in-default c = record { written = lays_as _ _ _ _ c.write-leaf.ensures (leaf_is _ _ _ _ c.args.tray.now.behind c.record.ensures c.in-default.not-Array c.in-default.not-Object); joined = array_text_joined }
+pub returns-in_default : goal.returns-in_default
+returns-in_default c = record { written = lays_as _ _ _ _ c.write_leaf.ensures (leaf_is _ _ _ _ c.args.tray.now.behind c.record.ensures c.in_default.not-Array c.in_default.not-Object); joined = array_text_joined }

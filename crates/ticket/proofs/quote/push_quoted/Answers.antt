@@ -6,4 +6,4 @@ use Rattle.ticket.proofs.quote.push_quoted.Goals as goal
 pub returns : goal.returns
 returns c =
     three (vec_items c.args.out.now) (34 ∷ []) (all_escaped c.args.text.now) (34 ∷ [])
-    c.in-ok-push.ensures.items c.in-ok-push-escaped.ensures c.in-ok-push-2.ensures.items
+    c.in_ok-push.ensures.items c.in_ok-push_escaped.ensures c.in_ok-push-2.ensures.items

@@ -8,10 +8,10 @@ pub returns : goal.returns
 returns c =
     seven (codes "show ") (shown_name c.args.name.now) (codes " ") c.args.kind.now (codes " text=") (quoted c.args.text.now) (10 ∷ [])
     c.new-line.ensures.items
-    c.in-ok-extend-from-slice.ensures.items
-    c.in-ok-push-name.ensures
-    c.in-ok-extend-from-slice-2.ensures.items
-    (c.in-ok-extend-from-slice-3.ensures.items ∙ ap (λ l. vec_items c.extend-from-slice-2.new.self ++ l) c.as-bytes.ensures.value)
-    c.in-ok-extend-from-slice-4.ensures.items
-    c.in-ok-push-quoted.ensures
-    c.in-ok-extend-from-slice-5.ensures.items
+    c.in_ok-extend_from_slice.ensures.items
+    c.in_ok-push_name.ensures
+    c.in_ok-extend_from_slice-2.ensures.items
+    (c.in_ok-extend_from_slice-3.ensures.items ∙ ap (λ l. vec_items c.extend_from_slice-2.new.self ++ l) c.as_bytes.ensures.value)
+    c.in_ok-extend_from_slice-4.ensures.items
+    c.in_ok-push_quoted.ensures
+    c.in_ok-extend_from_slice-5.ensures.items

@@ -6,10 +6,10 @@ use Rattle.tray.specs.declared.records.Record.TheVariants.{Nil}
 use Rattle.ticket.proofs.spelling.spell_all.Goals as goal
 
 pub loop-record-preserved : goal.loop-record-preserved
-loop-record-preserved c = one_more spelt [] c.args.records.now c.loop-record.record-index Nil (omega arith) c.loop-record.invariant c.in-ok-spell.ensures
+loop-record-preserved c = one_more spelt [] c.args.records.now c.loop-record.record-index Nil (omega arith) c.loop-record.invariant c.in_ok-spell.ensures
 
-pub returns-in-err-spell : goal.returns-in-err-spell
-returns-in-err-spell c = record { value = search rules; law = read_as_written }
+pub returns-in_err-spell : goal.returns-in_err-spell
+returns-in_err-spell c = record { value = search rules; law = read_as_written }
 
 pub returns : goal.returns
 returns c =

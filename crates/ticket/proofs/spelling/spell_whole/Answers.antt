@@ -6,6 +6,6 @@ use Rattle.ticket.proofs.spelling.spell_whole.Goals as goal
 
 pub returns : goal.returns
 returns c =
-    let written = c.to-le-bytes-bytes.ensures ∙ flat (of_z w64 (to_z w64 (of_z w64 c.args.n))) in
-    then (vec_items c.args.out.now) (2 ∷ []) c.in-ok-push.ensures.items c.in-ok-extend-from-slice.ensures.items
+    let written = c.to_le_bytes-bytes.ensures ∙ flat (of_z w64 (to_z w64 (of_z w64 c.args.n))) in
+    then (vec_items c.args.out.now) (2 ∷ []) c.in_ok-push.ensures.items c.in_ok-extend_from_slice.ensures.items
     (written ∙ ap (λ z. low_first 8 (of_z w64 z)) (to_z-of_z c.ranges.n))

@@ -1,4 +1,3 @@
-use Rattle.std.proofs.Common.{◌≡◌, ℕ, ◌+◌, ◌*◌, ◌<◌, true}
 use Rattle.tray.specs.Sound.{Keyed}
 use Rattle.tray.proofs.holders.keys_at.Given as goal
 

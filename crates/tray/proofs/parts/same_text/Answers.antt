@@ -5,4 +5,4 @@ use Rattle.tray.proofs.parts.same_text.Goals as goal
 
 pub returns : goal.returns
 unfolding same_text
-returns c = same_from_decides _ _ (slice_eq-Decides Decides-eqb _ _ _ c.eq.ensures) (bytes_eq-Decides _ _)
+returns c = same_from_decides _ _ (slice_eq-Decides Decides-eqb c.args.a.now c.args.b.now c.eq.result c.eq.ensures) (bytes_eq-Decides c.args.a.now c.args.b.now)

@@ -11,14 +11,14 @@ use Rattle.values.proofs.finds.find_in.Goals as goal
 below : (c : goal.In-Some) → c.in-Some.j < c.args.count
 below c = place_below Entry c.args.first 2 c.args.count c.in-Some.j _ c.in-Some.ensures.first.at
 
-pub overflow-mul-result : goal.overflow-mul-result
-overflow-mul-result c = omega (arith, below c)
+pub overflow_mul-result : goal.overflow_mul-result
+overflow_mul-result c = omega (arith, below c)
 
-pub overflow-add-result : goal.overflow-add-result
-overflow-add-result c = omega (arith, below c)
+pub overflow_add-result : goal.overflow_add-result
+overflow_add-result c = omega (arith, below c)
 
-pub overflow-add-result-in-Some : goal.overflow-add-result-in-Some
-overflow-add-result-in-Some c = omega (arith, below c)
+pub overflow_add-result-in-Some : goal.overflow_add-result-in-Some
+overflow_add-result-in-Some c = omega (arith, below c)
 
 pub returns-in-Some : goal.returns-in-Some
 returns-in-Some c =

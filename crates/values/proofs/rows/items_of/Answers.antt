@@ -10,6 +10,6 @@ pub returns-in-Array : goal.returns-in-Array
 returns-in-Array c =
     record { number = ap items_row c.in-Array.ensures; values = array_row _ _ c.args.tray.now.behind _ held_at (held_value c.args.tray.now) (λ i. refl) _ _ c.in-Array.ensures }
 
-pub returns-in-default : goal.returns-in-default
-returns-in-default c =
-    record { number = no_items_row c.record.result c.in-default.not-Nil c.in-default.not-Array ∙ ap items_row c.record.ensures; values = no_items _ _ c.args.tray.now.behind _ _ c.record.ensures c.in-default.not-Nil c.in-default.not-Array }
+pub returns-in_default : goal.returns-in_default
+returns-in_default c =
+    record { number = no_items_row c.record.result c.in_default.not-Nil c.in_default.not-Array ∙ ap items_row c.record.ensures; values = no_items _ _ c.args.tray.now.behind _ _ c.record.ensures c.in_default.not-Nil c.in_default.not-Array }

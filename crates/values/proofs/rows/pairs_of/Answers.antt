@@ -7,6 +7,6 @@ pub returns-in-Object : goal.returns-in-Object
 returns-in-Object c =
     record { number = ap pairs_row c.in-Object.ensures; values = object_row _ _ c.args.tray.now.behind _ pair_at (pair_value c.args.tray.now) (λ i. refl) c.args.tray.now.keys _ _ c.in-Object.ensures }
 
-pub returns-in-default : goal.returns-in-default
-returns-in-default c =
-    record { number = no_pairs_row c.record.result c.in-default.not-Object ∙ ap pairs_row c.record.ensures; values = no_pairs _ _ c.args.tray.now.behind _ _ c.record.ensures c.in-default.not-Object }
+pub returns-in_default : goal.returns-in_default
+returns-in_default c =
+    record { number = no_pairs_row c.record.result c.in_default.not-Object ∙ ap pairs_row c.record.ensures; values = no_pairs _ _ c.args.tray.now.behind _ _ c.record.ensures c.in_default.not-Object }

@@ -14,5 +14,5 @@ returns-in-Some c =
     let fits : SFits w64 c.in-Number.z = search rules in
     let w = c.in-Some.ensures.written in
     let same = ap whole_text (to_z-of_z w64 c.in-Number.z fits) in
-    let front : take (c.in-Some.n - 0) c.write-whole.new.out ≡ whole_text c.in-Number.z = ap (take (c.in-Some.n - 0)) w.1 ∙ take_at _ _ (c.in-Some.n - 0) (omega (arith, w.0)) ∙ same in
-    c.entry-named.ensures ∙ ap among front ∙ sym (ap (λ s. among (step_text (step_of s))) c.in-Number.is)
+    let front : take (c.in-Some.n - 0) c.write_whole.new.out ≡ whole_text c.in-Number.z = ap (take (c.in-Some.n - 0)) w.1 ∙ take_at _ _ (c.in-Some.n - 0) (omega (arith, w.0)) ∙ same in
+    c.entry_named.ensures ∙ ap among front ∙ sym (ap (λ s. among (step_text (step_of s))) c.in-Number.is)

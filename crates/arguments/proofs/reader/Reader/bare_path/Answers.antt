@@ -1,4 +1,4 @@
-use Rattle.std.proofs.Common.{◌≡◌, [], vec_items, sym, refl, ap, ◌∙◌}
+use Rattle.std.proofs.Common.{[], refl, ap}
 use Rattle.tree.specs.Expressions.{path}
 use Rattle.arguments.specs.Judging.{went, pure}
 use Rattle.arguments.specs.Tables.{pool_of}

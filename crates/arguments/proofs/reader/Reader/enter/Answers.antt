@@ -1,4 +1,4 @@
-use Rattle.std.proofs.Common.{◌≡◌, ◌+◌, ◌<◌, ◌≤◌, [], ◌∷◌, ◌++◌, map, length, Some, None, vec_items, sym, refl, ap, ◌∙◌, arith, length-append}
+use Rattle.std.proofs.Common.{◌≡◌, ◌+◌, [], ◌∷◌, ◌++◌, map, length, None, vec_items, sym, refl, ap, ◌∙◌, arith, length-append}
 use Rattle.std.proofs.lemmas.List.{map-append, length-map}
 use Rattle.rows.specs.First.{first_from}
 use Rattle.tray.specs.Parts.{same_text}
@@ -15,25 +15,25 @@ returns-in-Some c =
     let d = c.args.self.now in
     let src = d.source.now in
     let n = part_in src c.args.part in
-    let slice : c.as-slice.result.now ≡ vec_items d.names = c.as-slice.ensures.value in
+    let slice : c.as_slice.result.now ≡ vec_items d.names = c.as_slice.ensures.value in
     let mapped = first_map (λ m. same_text m n) (part_in src) 0 (vec_items d.names) ∙ ap (first_from (λ x. same_text (part_in src x) n) 0) (sym slice) in
     let f = c.in-Some.ensures in
-    let below = nth_below c.as-slice.result.now c.in-Some.k f.first.item f.first.at in
+    let below = nth_below c.as_slice.result.now c.in-Some.k f.first.item f.first.at in
     record {
       says = (c.in-Some.k, (refl, omega (arith, below, ap length slice)), enter_found c.args.place n (under d) c.in-Some.k (mapped ∙ sym f.place));
       grown = record { pool = wider_refl (pool_of d); names = front_refl _; cycles = front_refl _; nodes = refl; mark = refl };
     }
 
-pub returns-then-part-in-gt-LONGEST : goal.returns-then-part-in-gt-LONGEST
-returns-then-part-in-gt-LONGEST c =
+pub returns-then-part_in-gt-LONGEST : goal.returns-then-part_in-gt-LONGEST
+returns-then-part_in-gt-LONGEST c =
     let d = c.args.self.now in
     let src = d.source.now in
     let n = part_in src c.args.part in
-    let slice : c.as-slice.result.now ≡ vec_items d.names = c.as-slice.ensures.value in
+    let slice : c.as_slice.result.now ≡ vec_items d.names = c.as_slice.ensures.value in
     let mapped = first_map (λ m. same_text m n) (part_in src) 0 (vec_items d.names) ∙ ap (first_from (λ x. same_text (part_in src x) n) 0) (sym slice) in
     let none : first_from (λ m. same_text m n) 0 (map (part_in src) (vec_items d.names)) ≡ None = mapped ∙ sym c.in-None.ensures.place in
     record {
-      says = enter_long c.args.place n (under d) none (omega (arith, ap length c.part-in.ensures, c.if-part-in-gt-LONGEST.true));
+      says = enter_long c.args.place n (under d) none (omega (arith, ap length c.part_in.ensures, c.if-part_in-gt-LONGEST.true));
       grown = record { pool = wider_refl (pool_of d); names = front_refl _; cycles = front_refl _; nodes = refl; mark = refl };
     }
 
@@ -42,7 +42,7 @@ returns-then-k-ge-NAMES c =
     let d = c.args.self.now in
     let src = d.source.now in
     let n = part_in src c.args.part in
-    let slice : c.as-slice.result.now ≡ vec_items d.names = c.as-slice.ensures.value in
+    let slice : c.as_slice.result.now ≡ vec_items d.names = c.as_slice.ensures.value in
     let mapped = first_map (λ m. same_text m n) (part_in src) 0 (vec_items d.names) ∙ ap (first_from (λ x. same_text (part_in src x) n) 0) (sym slice) in
     let none : first_from (λ m. same_text m n) 0 (map (part_in src) (vec_items d.names)) ≡ None = mapped ∙ sym c.in-None.ensures.place in
     record {
@@ -57,7 +57,7 @@ returns-in-Ok c =
     let n = part_in src c.args.part in
     let old = vec_items d.names in
     let l = lists_of d in
-    let slice : c.as-slice.result.now ≡ old = c.as-slice.ensures.value in
+    let slice : c.as_slice.result.now ≡ old = c.as_slice.ensures.value in
     let none : first_from (λ m. same_text m n) 0 (map (part_in src) old) ≡ None = first_map (λ m. same_text m n) (part_in src) 0 old ∙ ap (first_from (λ x. same_text (part_in src x) n) 0) (sym slice) ∙ sym c.in-None.ensures.place in
     let items : vec_items c.push.new.self ≡ old ++ (c.args.part ∷ []) = c.in-Ok.ensures.items in
     let long : length (map (part_in src) old) ≡ c.len-k.result = length-map old (part_in src) ∙ sym d.names.ok.0 ∙ sym c.len-k.ensures in
@@ -67,7 +67,7 @@ returns-in-Ok c =
       says = (
         c.len-k.result,
         (refl, omega (arith, grew, long, length-map old (part_in src))),
-        enter_new c.args.place n (under d) none (omega (arith, ap length c.part-in.ensures, c.if-part-in-gt-LONGEST.false)) (omega (arith, long, c.if-k-ge-NAMES.false))
+        enter_new c.args.place n (under d) none (omega (arith, ap length c.part_in.ensures, c.if-part_in-gt-LONGEST.false)) (omega (arith, long, c.if-k-ge-NAMES.false))
             ∙ ap (λ k. passes k (state (ahead d.cursor) (with_name n l))) long
             ∙ ap (λ ns. passes c.len-k.result (state (ahead d.cursor) (record { names = ns; cycles = l.cycles; nodes = l.nodes; asked = l.asked }))) (sym spelt),
       );

@@ -1,8 +1,8 @@
-use Rattle.std.proofs.Common.{◌≡◌, sym, refl, ap, ◌∙◌}
+use Rattle.std.proofs.Common.{sym, refl, ap, ◌∙◌}
 use Rattle.cutter.specs.Ahead.{ahead}
 use Rattle.nodes.proofs.Options.{front_refl}
 use Rattle.nodes.proofs.Widens.{wider_refl}
-use Rattle.arguments.specs.Judging.{state, passes, finished}
+use Rattle.arguments.specs.Judging.{state, passes}
 use Rattle.arguments.specs.Tables.{lists_of, pool_of}
 use Rattle.arguments.proofs.Tokens.{finished_over, finished_word, finished_wrong}
 use Rattle.arguments.proofs.reader.Reader.finish.Goals as goal

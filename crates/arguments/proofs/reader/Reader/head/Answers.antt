@@ -1,4 +1,4 @@
-use Rattle.std.proofs.Common.{◌≡◌, sym, refl, ap, ◌∙◌}
+use Rattle.std.proofs.Common.{sym, ap, ◌∙◌}
 use Rattle.tree.specs.Expressions.{named}
 use Rattle.arguments.specs.Judging.{went, pure}
 use Rattle.arguments.specs.Values.{headed, special}
@@ -15,7 +15,7 @@ returns-in-Ok c =
       says = (
         named c.in-Ok.k,
         head_named (pool_of c.enter.new.self) c.in-Ok.k below,
-        ap (λ x. headed x c.args.place n (under d)) (ap special (sym c.part-in.ensures) ∙ sym c.in-Free.ensures)
+        ap (λ x. headed x c.args.place n (under d)) (ap special (sym c.part_in.ensures) ∙ sym c.in-Free.ensures)
             ∙ ap (λ v. went v (λ k. pure (named k))) says ∙ ap (λ k. pure (named k) (under c.enter.new.self)) is,
       );
       grown = c.in-Ok.ensures.grown;

@@ -1,21 +1,21 @@
-use Rattle.std.proofs.Common.{◌≡◌, ℕ, ◌+◌, ◌-◌, ◌<◌, ◌≤◌, true, false, cond, leb, List, [], ◌∷◌, ◌++◌, map, length, Ok, vec_items, sym, refl, ap, ◌∙◌, subst, arith, length-append}
+use Rattle.std.proofs.Common.{◌≡◌, ℕ, ◌+◌, ◌-◌, ◌≤◌, true, cond, leb, List, map, length, Ok, vec_items, sym, ap, ◌∙◌, subst, arith, length-append}
 use Rattle.cutter.specs.Ahead.{ahead}
 use Rattle.cutter.specs.Paths.{steps_of, steps_left, PlacedStep}
 use Rattle.nodes.specs.Wider.{Front}
 use Rattle.nodes.specs.declared.exprs.Span.{Span}
 use Rattle.tree.specs.Expressions.{path}
-use Rattle.nodes.proofs.Options.{keeps_entries, keeps_each}
-use Rattle.arguments.specs.Judging.{State, state, Verdict, refuses, went, pure, refuse, ◌next◌}
+use Rattle.nodes.proofs.Options.{keeps_entries}
+use Rattle.arguments.specs.Judging.{State, state, went, pure, refuse, ◌next◌}
 use Rattle.arguments.specs.Values.{head, tree_step_of, a_path}
-use Rattle.arguments.specs.Tables.{part_in, lists_of, pool_of, under, Refuses, Grown}
+use Rattle.arguments.specs.Tables.{part_in, lists_of, pool_of, under, Refuses}
 use Rattle.arguments.specs.declared.reader.Reader.{Reader}
 use Rattle.arguments.specs.Reading.{KeysIn, Stepped}
 use Rattle.arguments.proofs.Chaining.{grown_then, refuses_went, refuses_same}
 use Rattle.arguments.proofs.Paths.{keys_in, path_of, new_entries, each_source}
 use Rattle.arguments.proofs.reader.Reader.path.Goals as goal
 
-pub push-steps-requires : goal.push-steps-requires
-push-steps-requires c =
+pub push_steps-requires : goal.push_steps-requires
+push_steps-requires c =
     let d = c.args.self.now in
     let bs = c.args.steps.now in
     record { keys = subst (KeysIn d.source.now) (sym c.new-walk.ensures.steps) (keys_in d.source.now c.args.at bs (steps_of c.args.at bs) c.requires.lies (c.new-walk.ensures.inside c.args.at bs)) }
@@ -23,10 +23,10 @@ push-steps-requires c =
 front_longer : {A : Type 0} (xs ys : List A) → Front xs ys → length xs ≤ length ys
 front_longer xs ys h = omega (arith, ap length h.is, length-append xs h.more)
 
-pub overflow-sub-count : goal.overflow-sub-count
-overflow-sub-count c =
+pub overflow_sub-count : goal.overflow_sub-count
+overflow_sub-count c =
     let d = c.args.self.now in
-    let m = c.push-steps.new.self in
+    let m = c.push_steps.new.self in
     omega (arith, c.len-from.ensures, c.len.ensures, d.steps.ok.0, m.steps.ok.0, front_longer (vec_items d.steps) (vec_items m.steps) c.in-Ok.ensures.grown.pool.steps)
 
 -- what follows once the steps are found to be few
@@ -40,7 +40,7 @@ same_state d m l k = ap (λ x. state (ahead m.cursor) x) l ∙ ap (λ x. state (
 pub returns-in-Ok-head : goal.returns-in-Ok-head
 returns-in-Ok-head c =
     let d = c.args.self.now in
-    let m = c.push-steps.new.self in
+    let m = c.push_steps.new.self in
     let e = c.head.new.self in
     let p = c.args.place in
     let n = part_in d.source.now c.args.name in
@@ -68,7 +68,7 @@ returns-in-Ok-head c =
 pub returns-in-Err-head : goal.returns-in-Err-head
 returns-in-Err-head c =
     let d = c.args.self.now in
-    let m = c.push-steps.new.self in
+    let m = c.push_steps.new.self in
     let p = c.args.place in
     let n = part_in d.source.now c.args.name in
     let ss = steps_of c.args.at c.args.steps.now in

@@ -1,7 +1,5 @@
 use Rattle.std.proofs.Common.{◌≡◌, [], ◌∷◌, ◌++◌, vec_items, sym, refl, ◌∙◌, append-nil, arith}
 use Rattle.nodes.proofs.Options.{front_refl}
-use Rattle.nodes.proofs.Widens.{wider_refl}
-use Rattle.arguments.specs.Tables.{pool_of}
 use Rattle.arguments.proofs.reader.Reader.push_step.Goals as goal
 
 pub returns-in-Ok : goal.returns-in-Ok

@@ -1,4 +1,4 @@
-use Rattle.std.proofs.Common.{◌≡◌, sym, refl, ap, ◌∙◌, subst}
+use Rattle.std.proofs.Common.{sym, ap, ◌∙◌, subst}
 use Rattle.arguments.specs.Judging.{passes, seen, token}
 use Rattle.arguments.specs.Values.{value, value_as, read}
 use Rattle.arguments.specs.Tables.{pool_of, under, Lies}
@@ -6,8 +6,8 @@ use Rattle.arguments.specs.Reading.{Exprs}
 use Rattle.arguments.proofs.Chaining.{grown_then, said_went, refuses_went}
 use Rattle.arguments.proofs.reader.Reader.value.Goals as goal
 
-pub value-as-requires : goal.value-as-requires
-value-as-requires c = let (y, shown, says) = c.in-Ok.ensures.says in record { lies = subst (λ t. Lies t c.in-Ok.word.place c.in-Ok.word.bytes.now) (sym c.in-Ok.ensures.grown.pool.source) shown.lies }
+pub value_as-requires : goal.value_as-requires
+value_as-requires c = let (y, shown, says) = c.in-Ok.ensures.says in record { lies = subst (λ t. Lies t c.in-Ok.word.place c.in-Ok.word.bytes.now) (sym c.in-Ok.ensures.grown.pool.source) shown.lies }
 
 pub returns-in-Ok : goal.returns-in-Ok
 unfolding value
@@ -17,8 +17,8 @@ returns-in-Ok c =
     let w = c.in-Ok.word in
     let (y, shown, says) = c.in-Ok.ensures.says in
     record {
-      says = said_went c.value-as.result (token d.mark (under d)) (λ x. value_as x.place x.place (read x)) (seen w.place w.bytes.now) (under m) (Exprs (pool_of c.value-as.new.self)) (under c.value-as.new.self) (says ∙ ap (λ z. passes z (under m)) shown.is) c.value-as.ensures.says;
-      grown = grown_then d m c.value-as.new.self c.in-Ok.ensures.grown c.value-as.ensures.grown;
+      says = said_went c.value_as.result (token d.mark (under d)) (λ x. value_as x.place x.place (read x)) (seen w.place w.bytes.now) (under m) (Exprs (pool_of c.value_as.new.self)) (under c.value_as.new.self) (says ∙ ap (λ z. passes z (under m)) shown.is) c.value_as.ensures.says;
+      grown = grown_then d m c.value_as.new.self c.in-Ok.ensures.grown c.value_as.ensures.grown;
     }
 
 pub returns-in-Err : goal.returns-in-Err

@@ -1,13 +1,14 @@
-use Rattle.std.proofs.Common.{◌≡◌, ◌+◌, List, [], length, sym, refl, ap, ◌∙◌, subst}
+use Rattle.std.proofs.Common.{◌≡◌, ◌+◌, w64, SFits, Some, [], length, sym, refl, ap, ◌∙◌, subst}
 use Rattle.std.specs.Option.{option_map}
+use Rattle.std.proofs.lemmas.Int.{to_z-of_z}
 use Rattle.cutter.specs.Paths.{steps_of}
-use Rattle.cutter.specs.Tokens.{token_of, Parts, is_text, is_name, is_path}
+use Rattle.cutter.specs.Tokens.{token_of, Parts}
 use Rattle.tree.specs.Expressions.{nil_literal, boolean_literal, number_literal, text_literal}
 use Rattle.nodes.specs.Exprs.{expr_of}
 use Rattle.nodes.proofs.Options.{front_refl}
 use Rattle.nodes.proofs.Widens.{wider_refl}
 use Rattle.arguments.specs.Values.{a_path, value_as}
-use Rattle.arguments.specs.Tables.{part_in, pool_of, under, Lies}
+use Rattle.arguments.specs.Tables.{part_in, pool_of, under}
 use Rattle.arguments.specs.Reading.{Exprs}
 use Rattle.arguments.proofs.Chaining.{part_bytes, said_same}
 use Rattle.arguments.proofs.Lying.{lies_text, lies_front, lies_back}
@@ -29,7 +30,9 @@ pub returns-in-Number : goal.returns-in-Number
 unfolding value_as expr_of
 returns-in-Number c =
     let d = c.args.self.now in
-    record { says = (number_literal c.in-Number.n, refl, ap (λ t. value_as c.args.place c.args.word.place t (under d)) (sym c.in-Number.ensures.reads)); grown = record { pool = wider_refl (pool_of d); names = front_refl _; cycles = front_refl _; nodes = refl; mark = refl } }
+    let h = rw c.in-Number.is at c.token.type_inv in
+    let f : SFits w64 c.in-Number.n = record { sfits = h.1.1.1.1.0.1 } in
+    record { says = (number_literal c.in-Number.n, ap (λ z. Some (number_literal z)) (to_z-of_z w64 c.in-Number.n f), ap (λ t. value_as c.args.place c.args.word.place t (under d)) (sym c.in-Number.ensures.reads)); grown = record { pool = wider_refl (pool_of d); names = front_refl _; cycles = front_refl _; nodes = refl; mark = refl } }
 
 pub returns-in-Text : goal.returns-in-Text
 unfolding value_as expr_of
@@ -56,8 +59,8 @@ returns-in-Name c =
     let is = subst (Parts p bs) (sym e.reads) (e.parts p bs) in
     let spelt : n ≡ part_in d.source.now (record { place = p; len = length n }) = is ∙ c.requires.lies.is ∙ ap (λ b. part_in d.source.now (record { place = p; len = length b })) (sym is) in
     record {
-      says = said_same c.bare-path.result (a_path c.args.place (part_in d.source.now (record { place = p; len = length n })) [] (under d)) (value_as c.args.place p (token_of p bs) (under d)) (Exprs (pool_of c.bare-path.new.self)) (under c.bare-path.new.self) (ap (λ r. value_as c.args.place p r (under d)) (sym e.reads) ∙ ap (λ x. a_path c.args.place x [] (under d)) spelt) c.bare-path.ensures.says;
-      grown = c.bare-path.ensures.grown;
+      says = said_same c.bare_path.result (a_path c.args.place (part_in d.source.now (record { place = p; len = length n })) [] (under d)) (value_as c.args.place p (token_of p bs) (under d)) (Exprs (pool_of c.bare_path.new.self)) (under c.bare_path.new.self) (ap (λ r. value_as c.args.place p r (under d)) (sym e.reads) ∙ ap (λ x. a_path c.args.place x [] (under d)) spelt) c.bare_path.ensures.says;
+      grown = c.bare_path.ensures.grown;
     }
 
 pub path-requires : goal.path-requires

@@ -33,7 +33,7 @@ returns-else-start-self c =
     let now = ends same _ _ _ c.loop-self-test.false c.if-start-self.false c.in-Text.is in
     (sym kept ∙ now, now)
 
-pub returns-in-default : goal.returns-in-default
-returns-in-default c =
+pub returns-in_default : goal.returns-in_default
+returns-in_default c =
     let (kept, same) = c.loop-self.invariant in
-    (sym kept ∙ breaks same _ _ _ c.loop-self-test.false c.in-default.not-Text c.in-default.not-Brace, kept)
+    (sym kept ∙ breaks same _ _ _ c.loop-self-test.false c.in_default.not-Text c.in_default.not-Brace, kept)

@@ -5,12 +5,12 @@ use Rattle.rows.proofs.numbers.Numbers.new.Goals as goal
 
 pub returns-then-n : goal.returns-then-n
 returns-then-n c =
-    let e = widened c.args.from c.args.to c.distance-n.result c.ranges.from c.ranges.to c.distance-n.type-inv c.distance-n.ensures in
+    let e = widened c.args.from c.args.to c.distance-n.result c.ranges.from c.ranges.to c.distance-n.type_inv c.distance-n.ensures in
     record { made = natural_over _ _ 4096 e c.if-n.true; exact = numbers_between c.args.from c.args.to }
 
 pub returns-else-n : goal.returns-else-n
 returns-else-n c =
-    let e = widened c.args.from c.args.to c.distance-n.result c.ranges.from c.ranges.to c.distance-n.type-inv c.distance-n.ensures in
+    let e = widened c.args.from c.args.to c.distance-n.result c.ranges.from c.ranges.to c.distance-n.type_inv c.distance-n.ensures in
     record {
       made = held_all c.args.from c.args.to _ _ (to_z-of_z w64 c.args.from c.ranges.from) (to_z-of_z w64 c.args.to c.ranges.to) (natural_under _ _ 4096 e c.if-n.false);
       exact = numbers_between c.args.from c.args.to;

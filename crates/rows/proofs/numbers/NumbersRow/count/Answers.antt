@@ -9,4 +9,4 @@ returns c =
     let s = c.args.self.now in
     let f : SFits w64 s.from = search rules in
     let t : SFits w64 s.to = search rules in
-    count_is s.from s.to _ _ (to_z-of_z w64 s.from f) (to_z-of_z w64 s.to t) _ c.held-count.ensures ∙ sym (length-map-range_with_len _ _ _)
+    count_is s.from s.to _ _ (to_z-of_z w64 s.from f) (to_z-of_z w64 s.to t) _ c.held_count.ensures ∙ sym (length-map-range_with_len _ _ _)

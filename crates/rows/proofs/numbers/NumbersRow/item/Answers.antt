@@ -8,7 +8,7 @@ returns-then-k-n c =
     let s = c.args.self.now in
     let f : SFits w64 s.from = search rules in
     let t : SFits w64 s.to = search rules in
-    let h = held_at s.from s.to _ _ (to_z-of_z w64 s.from f) (to_z-of_z w64 s.to t) _ c.args.k c.held-count-n.ensures c.if-k-n.true in
+    let h = held_at s.from s.to _ _ (to_z-of_z w64 s.from f) (to_z-of_z w64 s.to t) _ c.args.k c.held_count-n.ensures c.if-k-n.true in
     let e : to_z w64 (of_z w64 (to_z w64 (of_z w64 s.from) +ℤ to_z w64 c.args.k)) ≡ s.from +ℤ pos c.args.k = omega (arith, ints, h.1) in
     ap Some e ∙ sym h.0
 
@@ -17,4 +17,4 @@ returns-else-k-n c =
     let s = c.args.self.now in
     let f : SFits w64 s.from = search rules in
     let t : SFits w64 s.to = search rules in
-    sym (held_past s.from s.to _ _ (to_z-of_z w64 s.from f) (to_z-of_z w64 s.to t) _ c.args.k c.held-count-n.ensures c.if-k-n.false)
+    sym (held_past s.from s.to _ _ (to_z-of_z w64 s.from f) (to_z-of_z w64 s.to t) _ c.args.k c.held_count-n.ensures c.if-k-n.false)

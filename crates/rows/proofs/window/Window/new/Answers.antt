@@ -6,6 +6,6 @@ use Rattle.rows.proofs.window.Window.new.Goals as goal
 
 pub returns : goal.returns
 returns g c =
-    let f : SFits w64 c.unwrap-or.result = record { sfits = c.unwrap-or.type-inv } in
-    let e : to_z w64 (of_z w64 c.unwrap-or.result) ≡ unwrap_or c.args.offset (pos 0) = to_z-of_z w64 c.unwrap-or.result f ∙ c.unwrap-or.ensures in
+    let f : SFits w64 c.unwrap_or.result = record { sfits = c.unwrap_or.type_inv } in
+    let e : to_z w64 (of_z w64 c.unwrap_or.result) ≡ unwrap_or c.args.offset (pos 0) = to_z-of_z w64 c.unwrap_or.result f ∙ c.unwrap_or.ensures in
     record { made = (refl, e, refl, refl); means = ap (λ z. windowed z c.args.limit c.args.reversed (g.R.Row.items c.args.row)) e; worked = worked }

@@ -7,4 +7,4 @@ pub returns : goal.returns
 returns g c =
     let w = c.args.self.now in
     let f : SFits w64 w.offset = search rules in
-    window_count w.offset w.limit w.reversed (g.R.Row.items w.row) (to_z-of_z w64 w.offset f) c.count-n.ensures c.start.ensures c.end.ensures c.saturating-sub.result c.saturating-sub.ensures
+    window_count w.offset w.limit w.reversed (g.R.Row.items w.row) (to_z-of_z w64 w.offset f) c.count-n.ensures c.start.ensures c.end.ensures c.saturating_sub.result c.saturating_sub.ensures
