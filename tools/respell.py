@@ -179,6 +179,16 @@ def turn_rt(text, turned, fields):
     return "\n".join(out)
 
 
+def aliases(text):
+    """The names that a file gives to what it imports, such as `at as recordAt`."""
+    out = {}
+    for line in re.findall(r"^(?:ghost )?use .*$", text, re.M):
+        for name in re.findall(r" as ([a-z][A-Za-z0-9-]*)", line):
+            if snake(name) != name:
+                out[name] = snake(name)
+    return out
+
+
 def main():
     dry = "--dry" in sys.argv
     found, made, turned = spelling()
@@ -187,7 +197,7 @@ def main():
     for ending, turn in ((".antt", turn_antt), (".rt", turn_rt)):
         for path in files(ending):
             old = read(path)
-            new = turn(old, turned | IN_FILE.get(path, {}), fields)
+            new = turn(old, turned | IN_FILE.get(path, {}) | aliases(old), fields)
             if new != old:
                 count += 1
                 if not dry:

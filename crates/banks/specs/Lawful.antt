@@ -9,7 +9,7 @@ use Rattle.banks.specs.declared.causes.Cause.{Cause}
 use Rattle.banks.specs.declared.causes.Cause.TheVariants.{UnknownName, Overflow, NoPhrase}
 use Rattle.banks.specs.Joined.{joined, nothing}
 use Rattle.banks.specs.Meaning.{Given, a_number, a_text, Meaning, FitsBuffer, Lawful}
-use Rattle.banks.specs.Operands.{Datum, nil as nilDatum, boolean as booleanDatum, whole as wholeDatum, text as textDatum}
+use Rattle.banks.specs.Operands.{Datum, nil as nil_datum, boolean as boolean_datum, whole as whole_datum, text as text_datum}
 use Rattle.banks.specs.Phrases.{phrase_of, phrase_found, phrase_named, phrase, phrases}
 use Rattle.banks.specs.Sums.{operation, whole_in, whole_in_argument, calculated, applied, sums}
 
@@ -64,10 +64,10 @@ found_short None = tt
 found_short (Some v) = phrase_of_short v
 
 named_short : (names : Value) (input : Datum) → FitsBuffer (phrase_named names input)
-named_short names nilDatum = tt
-named_short names (booleanDatum b) = tt
-named_short names (wholeDatum z) = tt
-named_short names (textDatum k) = found_short (member names k)
+named_short names nil_datum = tt
+named_short names (boolean_datum b) = tt
+named_short names (whole_datum z) = tt
+named_short names (text_datum k) = found_short (member names k)
 
 phrase_short : (names : Value) (input : Datum) (argument : Option Datum) → FitsBuffer (phrase names input argument)
 phrase_short names input None = named_short names input

@@ -6,7 +6,7 @@ use Rattle.values.specs.Value.{Value, nil, boolean, whole, text, array, object}
 use Rattle.banks.specs.declared.causes.Cause.{Cause}
 use Rattle.banks.specs.declared.causes.Cause.TheVariants.{UnknownName, WrongOperand, NoPhrase}
 use Rattle.banks.specs.Meaning.{Given, a_text, Meaning}
-use Rattle.banks.specs.Operands.{Datum, nil as nilDatum, boolean as booleanDatum, whole as wholeDatum, text as textDatum}
+use Rattle.banks.specs.Operands.{Datum, nil as nil_datum, boolean as boolean_datum, whole as whole_datum, text as text_datum}
 
 -- a text of at most 256 bytes is a phrase; no other value is
 abbrev pub phrase_of : Value → Result Given Cause
@@ -23,10 +23,10 @@ phrase_found (Some v) = phrase_of v
 
 -- the phrase that an input names
 abbrev pub phrase_named : Value → Datum → Result Given Cause
-phrase_named names nilDatum = Err WrongOperand
-phrase_named names (booleanDatum b) = Err WrongOperand
-phrase_named names (wholeDatum z) = Err WrongOperand
-phrase_named names (textDatum t) = phrase_found (member names t)
+phrase_named names nil_datum = Err WrongOperand
+phrase_named names (boolean_datum b) = Err WrongOperand
+phrase_named names (whole_datum z) = Err WrongOperand
+phrase_named names (text_datum t) = phrase_found (member names t)
 
 -- `phrase` takes no argument
 abbrev pub phrase : Value → Datum → Option Datum → Result Given Cause

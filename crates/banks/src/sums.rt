@@ -3,7 +3,7 @@ ghost use Rattle.std.specs.Option.{option_map};
 ghost use Rattle.numerals.specs.Decimal.{if_fits};
 ghost use Rattle.banks.specs.Operands.{datum};
 ghost use Rattle.banks.specs.Operations.{rule, numbered};
-ghost use Rattle.banks.specs.Sums.{operation as operationOf, whole_in, whole_in_argument, calculated, sums};
+ghost use Rattle.banks.specs.Sums.{operation as operation_of, whole_in, whole_in_argument, calculated, sums};
 ghost use Rattle.banks.specs.Lawful.{sums_lawful};
 
 use crate::answers::{Answer, clear};
@@ -26,7 +26,7 @@ enum Operation {
 
 // The operation of that name.
 fn named(name: &[u8]) -> Option<Operation>
-    ensures { option_map rule result ≡ operationOf name.now }
+    ensures { option_map rule result ≡ operation_of name.now }
 {
     if same_text(name, b"plus") {
         Some(Operation::Plus)

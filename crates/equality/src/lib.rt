@@ -3,7 +3,7 @@
 #![tactic(auto)]
 
 ghost use Rattle.std.specs.Prelude.{◌≡◌, ℕ, ◌+◌, ◌*◌, ◌<◌, ◌≤◌, true};
-ghost use Rattle.values.specs.Value.{equal as areEqual, equal_items, agrees as allAgree, within as allIn, empty};
+ghost use Rattle.values.specs.Value.{equal as are_equal, equal_items, agrees as all_agree, within as all_in, empty};
 ghost use Rattle.values.specs.Meaning.{value_of, text_at, count_of, items_from, entries_from, Below};
 ghost use Rattle.equality.specs.Laws.{ObjectsAgree, EqualsItself, EqualEitherWay};
 
@@ -16,7 +16,7 @@ mod parts;
 
 // Whether each key of the first entries is one of the others.
 fn within(tray: &Tray, first: u16, count: u16, other: u16, others: u16) -> bool
-    ensures { result ≡ allIn (entries_from (text_at tray.now) (value_of tray.now) first count) (entries_from (text_at tray.now) (value_of tray.now) other others) }
+    ensures { result ≡ all_in (entries_from (text_at tray.now) (value_of tray.now) first count) (entries_from (text_at tray.now) (value_of tray.now) other others) }
 {
     for j in 0..count {
         if find_in(
@@ -36,7 +36,7 @@ fn within(tray: &Tray, first: u16, count: u16, other: u16, others: u16) -> bool
 // Whether two records stand for equal values.
 #[cycle(equal_values)]
 fn equal_at(tray: &Tray, a: usize, b: usize) -> bool
-    ensures { result ≡ areEqual (value_of tray.now a) (value_of tray.now b) }
+    ensures { result ≡ are_equal (value_of tray.now a) (value_of tray.now b) }
 {
     let other = tray.record(b);
     match tray.record(a) {
@@ -75,7 +75,7 @@ fn equal_items(tray: &Tray, holder: usize, f: u16, n: u16, g: u16, m: u16) -> bo
 #[cycle(equal_values)]
 fn agrees(tray: &Tray, holder: usize, f: u16, n: u16, g: u16, m: u16) -> bool
     requires { Below holder f (2 * n) (count_of tray.now) }
-    ensures { result ≡ allAgree (entries_from (text_at tray.now) (value_of tray.now) f n) empty (entries_from (text_at tray.now) (value_of tray.now) g m) }
+    ensures { result ≡ all_agree (entries_from (text_at tray.now) (value_of tray.now) f n) empty (entries_from (text_at tray.now) (value_of tray.now) g m) }
 {
     for j in 0..n {
         let at = f as usize + 2 * j as usize;
@@ -96,7 +96,7 @@ fn agrees(tray: &Tray, holder: usize, f: u16, n: u16, g: u16, m: u16) -> bool
 
 // Whether two records of a tray, by number, stand for equal values.
 pub fn equal(tray: &Tray, a: usize, b: usize) -> bool
-    ensures value { result ≡ areEqual (value_of tray.now a) (value_of tray.now b) }
+    ensures value { result ≡ are_equal (value_of tray.now a) (value_of tray.now b) }
     ensures objects { ObjectsAgree }
     ensures itself { EqualsItself }
     ensures either { EqualEitherWay }

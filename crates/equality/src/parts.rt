@@ -1,6 +1,6 @@
 ghost use Rattle.std.specs.Prelude.{◌≡◌, ℕ, List};
 ghost use Rattle.values.specs.Value.{Value, is_nil, is_boolean, is_whole, is_text, same_whole, same_boolean};
-ghost use Rattle.tray.specs.Sound.{at as recordAt};
+ghost use Rattle.tray.specs.Sound.{at as record_at};
 ghost use Rattle.values.specs.Meaning.{shape, text_at};
 
 use tray::parts::same_text;
@@ -48,7 +48,7 @@ pub(crate) fn is_whole(b: i64, of: Record) -> bool
 
 // Whether the texts of two records are the same; false where the second is no text.
 pub(crate) fn is_text(tray: &Tray, a: usize, b: usize) -> bool
-    ensures { (key : ℕ → List ℕ) (f : ℕ → Value) → result ≡ is_text (text_at tray.now a) (shape tray.now.text.now key f (recordAt tray.now.records.items b)) }
+    ensures { (key : ℕ → List ℕ) (f : ℕ → Value) → result ≡ is_text (text_at tray.now a) (shape tray.now.text.now key f (record_at tray.now.records.items b)) }
 {
     match tray.record(b) {
         Record::Text(_, _) => same_text(tray.text_of(a), tray.text_of(b)),

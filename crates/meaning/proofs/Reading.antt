@@ -9,7 +9,7 @@ use Rattle.values.specs.Value.{Value, find}
 use Rattle.values.specs.Numbers.{place_of}
 use Rattle.values.specs.Meaning.{items_from, entries_from, shape, key_at, value_at}
 use Rattle.values.specs.RowsOf.{items_of, pairs_of}
-use Rattle.values.specs.Steps.{indexed, into_items, sized, or_else, keyed, step_text, stepped as tree-stepped}
+use Rattle.values.specs.Steps.{indexed, into_items, sized, or_else, keyed, step_text, stepped as tree_stepped}
 use Rattle.values.proofs.Unfolds.{unfolds, stands}
 use Rattle.values.proofs.Stepping.{count_items, count_entries, index_some, index_none}
 use Rattle.values.proofs.Listing.{array_row, object_row}
@@ -74,7 +74,7 @@ module _ (h : Host) (b : Behind h.records) where
   key_agrees (index z) = refl
   key_agrees (key k) = refl
 
-  record_agrees : (r : Record) (s : Step) → option_map (value_of h) (step_into_record h r s) ≡ tree-stepped (shape h.letters keys valued r) (tree_step s)
+  record_agrees : (r : Record) (s : Step) → option_map (value_of h) (step_into_record h r s) ≡ tree_stepped (shape h.letters keys valued r) (tree_step s)
   record_agrees Nil s = refl
   record_agrees (Boolean x) s = refl
   record_agrees (Whole z) s = refl
@@ -82,10 +82,10 @@ module _ (h : Host) (b : Behind h.records) where
   record_agrees (Array f n) s = items_agree f n s
   record_agrees (Object f n) s = entries_agree f n (key_of h s) ∙ ap (keyed (entries_from keys valued f n)) (key_agrees s)
 
-  at_agrees : (i : ℕ) (s : Step) → option_map (value_of h) (step_into_record h (at h.records i) s) ≡ tree-stepped (valued i) (tree_step s)
-  at_agrees i s = record_agrees (at h.records i) s ∙ ap (λ v. tree-stepped v (tree_step s)) (sym (unfolds h.records h.letters b i))
+  at_agrees : (i : ℕ) (s : Step) → option_map (value_of h) (step_into_record h (at h.records i) s) ≡ tree_stepped (valued i) (tree_step s)
+  at_agrees i s = record_agrees (at h.records i) s ∙ ap (λ v. tree_stepped v (tree_step s)) (sym (unfolds h.records h.letters b i))
 
-  steps : (v : Held) (s : Step) → option_map (value_of h) (stepped h v s) ≡ tree-stepped (value_of h v) (tree_step s)
+  steps : (v : Held) (s : Step) → option_map (value_of h) (stepped h v s) ≡ tree_stepped (value_of h v) (tree_step s)
   steps nil s = refl
   steps (boolean x) s = refl
   steps (whole z) s = refl

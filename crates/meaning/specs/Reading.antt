@@ -3,7 +3,7 @@ use Rattle.std.specs.Prelude.{◌≡◌, List, map, Option}
 use Rattle.std.specs.Option.{option_map, option_or}
 use Rattle.tray.specs.Sound.{Sound}
 use Rattle.values.specs.Value.{Value}
-use Rattle.values.specs.Steps.{Step as TreeStep, number, name, stepped as tree-stepped}
+use Rattle.values.specs.Steps.{Step as TreeStep, number, name, stepped as tree_stepped}
 use Rattle.values.specs.RowsOf.{items_of, pairs_of}
 use Rattle.tree.specs.Expressions.{Step, index, key}
 use Rattle.meaning.specs.Things.{Held}
@@ -21,7 +21,7 @@ tree_row v = option_or (items_of v) (pairs_of v)
 abbrev pub StepsAgree : Type 0
 StepsAgree =
     (h : Host) (v : Held) (s : Step) → Sound h.records h.letters →
-    option_map (value_of h) (stepped h v s) ≡ tree-stepped (value_of h v) (tree_step s)
+    option_map (value_of h) (stepped h v s) ≡ tree_stepped (value_of h v) (tree_step s)
 
 -- records that make a tray, and a held value whose records are there
 pub record There (h : Host) (v : Held) : Type 0 where

@@ -1,6 +1,6 @@
 ghost use Rattle.std.specs.Prelude.{◌≡◌, length};
 ghost use Rattle.numerals.specs.Decimal.{whole_text};
-ghost use Rattle.tray.specs.Sound.{at as recordAt};
+ghost use Rattle.tray.specs.Sound.{at as record_at};
 ghost use Rattle.texts.specs.Written.{leaf_text, plain_text, Lays};
 
 use numerals::write_whole;
@@ -20,7 +20,7 @@ fn whole_len(n: i64) -> usize
 
 // The text of a record that is no number and holds no other.
 fn plain<'a>(tray: &Tray<'a>, i: usize) -> &'a [u8]
-    ensures { result.now ≡ plain_text tray.now.text.now (recordAt tray.now.records.items i) }
+    ensures { result.now ≡ plain_text tray.now.text.now (record_at tray.now.records.items i) }
 {
     match tray.record(i) {
         Record::Boolean(true) => b"true",
@@ -31,7 +31,7 @@ fn plain<'a>(tray: &Tray<'a>, i: usize) -> &'a [u8]
 
 // How long the text of a record is that holds no other.
 pub(crate) fn leaf_len(tray: &Tray, i: usize) -> usize
-    ensures { result ≡ length (leaf_text tray.now.text.now (recordAt tray.now.records.items i)) }
+    ensures { result ≡ length (leaf_text tray.now.text.now (record_at tray.now.records.items i)) }
 {
     match tray.record(i) {
         Record::Whole(n) => whole_len(n),
@@ -53,7 +53,7 @@ pub(crate) fn write_part(part: &[u8], out: &mut [u8]) -> Option<usize>
 
 // Lays the text of a record that holds no other at the front of `out`, where it has room.
 pub(crate) fn write_leaf(tray: &Tray, i: usize, out: &mut [u8]) -> Option<usize>
-    ensures { Lays (leaf_text tray.now.text.now (recordAt tray.now.records.items i)) out.old out.new result }
+    ensures { Lays (leaf_text tray.now.text.now (record_at tray.now.records.items i)) out.old out.new result }
 {
     match tray.record(i) {
         Record::Whole(n) => write_whole(n, out),

@@ -1,5 +1,5 @@
 ghost use Rattle.std.specs.Prelude.{◌≡◌, ◌+◌, ◌*◌, ◌<◌, ◌≤◌, length};
-ghost use Rattle.tray.specs.Sound.{at as recordAt};
+ghost use Rattle.tray.specs.Sound.{at as record_at};
 ghost use Rattle.values.specs.Value.{written, written_items, written_entries};
 ghost use Rattle.values.specs.Meaning.{value_of, text_at, count_of, items_from, entries_from, Below};
 ghost use Rattle.texts.specs.Written.{LaidAt, Lays, leaf_text};
@@ -23,8 +23,8 @@ fn part_at(part: &[u8], out: &mut [u8], from: usize) -> usize
 
 // The same with the text of a record that holds no other.
 fn leaf_at(tray: &Tray, i: usize, out: &mut [u8], from: usize) -> usize
-    requires { from + length (leaf_text tray.now.text.now (recordAt tray.now.records.items i)) ≤ length out.old }
-    ensures { LaidAt from (leaf_text tray.now.text.now (recordAt tray.now.records.items i)) out.old out.new result }
+    requires { from + length (leaf_text tray.now.text.now (record_at tray.now.records.items i)) ≤ length out.old }
+    ensures { LaidAt from (leaf_text tray.now.text.now (record_at tray.now.records.items i)) out.old out.new result }
 {
     match write_leaf(tray, i, &mut out[from..]) {
         Some(n) => from + n,

@@ -2,7 +2,7 @@
 use Rattle.std.specs.Prelude.{ℕ, zero, suc, ◌+◌, ◌/◌, ◌%◌, ◌<◌, ◌≤◌, cond, List, [], ◌∷◌, ◌++◌, FitsSigned}
 use Rattle.std.specs.Int.{w64}
 use Rattle.std.proofs.Common.{of_z}
-use Rattle.std.specs.List.{flat_map, AllByRecursion as All}
+use Rattle.std.specs.List.{flat_map, AllByRecursion}
 use Rattle.tray.specs.Format.{TrayBytes}
 use Rattle.tray.specs.declared.records.Record.{Record}
 use Rattle.tray.specs.declared.records.Record.TheVariants.{Nil, Boolean, Whole, Text, Array, Object}
@@ -38,4 +38,4 @@ Sayable room (Object f n) = (f < 65536) × (n < 65536)
 
 -- the bytes that are written for records are, to who opens a tray, those of the same records
 abbrev pub ReadAsWritten : Type 0
-ReadAsWritten = (room : ℕ) (rs : List Record) → All (Sayable room) rs → TrayBytes room (all_spelt rs) rs
+ReadAsWritten = (room : ℕ) (rs : List Record) → AllByRecursion (Sayable room) rs → TrayBytes room (all_spelt rs) rs

@@ -1,5 +1,5 @@
 ghost use Rattle.std.specs.Prelude.{◌≡◌, ℕ, ◌+◌, ◌*◌, ◌^◌, ◌<◌, ◌≤◌, true, false, ◌⊎◌, length, Decides, MatchBool, slice_index_or};
-ghost use Rattle.tray.specs.Sound.{first_of, width_of, at as recordAt, is_text, is_object, Took, Barred, HeldOnce, KeysText, Keyed};
+ghost use Rattle.tray.specs.Sound.{first_of, width_of, at as record_at, is_text, is_object, Took, Barred, HeldOnce, KeysText, Keyed};
 
 use crate::records::Record;
 

@@ -2,7 +2,7 @@ ghost use Rattle.std.specs.Prelude.{◌≡◌, length, Some, None, MatchResult};
 ghost use Rattle.tray.specs.Accept.{Accepts, Never};
 ghost use Rattle.tray.specs.Decode.{Why, number_of};
 ghost use Rattle.tray.specs.Parts.{key_of};
-ghost use Rattle.tray.specs.Sound.{at as recordAt};
+ghost use Rattle.tray.specs.Sound.{at as record_at};
 
 use crate::judging::sound;
 use crate::loading::load;
@@ -48,7 +48,7 @@ impl<'a> Tray<'a> {
 
     // A record by number; past the end there is only nil.
     pub fn record(&self, i: usize) -> Record
-        ensures { result ≡ recordAt self.now.records.items i }
+        ensures { result ≡ record_at self.now.records.items i }
     {
         if i < self.records.len() {
             self.records[i]
@@ -59,7 +59,7 @@ impl<'a> Tray<'a> {
 
     // The bytes of a text record; of any other, none.
     pub fn text_of(&self, i: usize) -> &'a [u8]
-        ensures { result.now ≡ key_of self.now.text.now (recordAt self.now.records.items i) }
+        ensures { result.now ≡ key_of self.now.text.now (record_at self.now.records.items i) }
     {
         key_of(self.text, self.record(i))
     }

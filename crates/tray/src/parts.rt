@@ -1,5 +1,5 @@
 ghost use Rattle.std.specs.Prelude.{◌≡◌, take, drop};
-ghost use Rattle.tray.specs.Parts.{cut as cutOut, key_of, same_text};
+ghost use Rattle.tray.specs.Parts.{cut as cut_out, key_of, same_text};
 
 use crate::records::Record;
 
@@ -25,7 +25,7 @@ fn front<'a>(text: &'a [u8], len: usize) -> &'a [u8]
 
 // A part of a text; what lies past the end is left out.
 pub(crate) fn cut<'a>(text: &'a [u8], place: usize, len: usize) -> &'a [u8]
-    ensures { result.now ≡ cutOut text.now place len }
+    ensures { result.now ≡ cut_out text.now place len }
 {
     front(behind(text, place), len)
 }

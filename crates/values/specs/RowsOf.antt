@@ -1,10 +1,10 @@
 -- The values that a loop may go over, as lists.
 use Rattle.std.specs.Prelude.{ℕ, zero, suc, ◌+◌, List, [], ◌∷◌, Some, None, Option}
 use Rattle.tray.specs.declared.trays.Tray.{Tray}
-use Rattle.values.specs.declared.rows.Held.{Held}
-use Rattle.values.specs.declared.rows.Pair.{Pair}
-use Rattle.values.specs.declared.rows.Items.{Items as ItemsRow}
-use Rattle.values.specs.declared.rows.Pairs.{Pairs as PairsRow}
+use Rattle.values.specs.declared.rows_of.Held.{Held}
+use Rattle.values.specs.declared.rows_of.Pair.{Pair}
+use Rattle.values.specs.declared.rows_of.Items.{Items as ItemsRow}
+use Rattle.values.specs.declared.rows_of.Pairs.{Pairs as PairsRow}
 use Rattle.tray.specs.declared.records.Record.{Record}
 use Rattle.tray.specs.declared.records.Record.TheVariants.{Nil, Boolean, Whole, Text, Array, Object}
 use Rattle.values.specs.Value.{Value, nil, boolean, whole, text, array, object, Items, none, item, Entries, empty, entry}

@@ -1,8 +1,8 @@
 ghost use Rattle.std.specs.Prelude.{◌≡◌, ℕ, ◌+◌, ◌*◌, ◌<◌, ◌≤◌, map, IfSome};
 ghost use Rattle.std.specs.Option.{option_map};
-ghost use Rattle.values.specs.Value.{find as findIn};
+ghost use Rattle.values.specs.Value.{find as find_in};
 ghost use Rattle.tray.specs.Parts.{same_text};
-ghost use Rattle.tray.specs.Sound.{at as recordAt};
+ghost use Rattle.tray.specs.Sound.{at as record_at};
 ghost use Rattle.values.specs.Steps.{member};
 ghost use Rattle.values.specs.Numbers.{entry_number, member_number};
 ghost use Rattle.values.specs.RowsOf.{stepping};
@@ -78,7 +78,7 @@ impl<'a, 'k, 't> Equality<Key> for SameKey<'a, 'k, 't> {
 // The value of the first with the key, by number, of the `count` entries from the record `first` on.
 pub fn find_in(tray: &Tray, first: u16, count: u16, key: &[u8]) -> Option<usize>
     ensures number { result ≡ entry_number (text_at tray.now) key.now first count }
-    ensures value { option_map (value_of tray.now) result ≡ findIn key.now (entries_from (text_at tray.now) (value_of tray.now) first count) }
+    ensures value { option_map (value_of tray.now) result ≡ find_in key.now (entries_from (text_at tray.now) (value_of tray.now) first count) }
     ensures place { IfSome result (λ c. (first < c) × (c < first + 2 * count)) }
 {
     match first_match(
@@ -93,7 +93,7 @@ pub fn find_in(tray: &Tray, first: u16, count: u16, key: &[u8]) -> Option<usize>
 
 // The value of the first entry with the key, by number, where the record i is an object.
 pub fn find(tray: &Tray, i: usize, key: &[u8]) -> Option<usize>
-    ensures number { result ≡ member_number (text_at tray.now) (recordAt tray.now.records.items i) key.now }
+    ensures number { result ≡ member_number (text_at tray.now) (record_at tray.now.records.items i) key.now }
     ensures value { option_map (value_of tray.now) result ≡ member (value_of tray.now i) key.now }
 {
     match tray.record(i) {

@@ -3,5 +3,5 @@
 #![tactic(auto)]
 
 pub mod finds;
-pub mod rows;
+pub mod rows_of;
 pub mod steps;

@@ -1,6 +1,6 @@
 ghost use Rattle.std.specs.Prelude.{◌≡◌, ◌+◌};
 ghost use Rattle.std.specs.Option.{option_map};
-ghost use Rattle.tray.specs.Sound.{at as recordAt};
+ghost use Rattle.tray.specs.Sound.{at as record_at};
 ghost use Rattle.values.specs.Meaning.{value_of, text_at};
 ghost use Rattle.values.specs.Steps.{step_text, stepped};
 ghost use Rattle.values.specs.Numbers.{place_of, item_found, item_named_found, among_items, among_entries, followed};
@@ -105,7 +105,7 @@ fn into_entries(tray: &Tray, first: u16, count: u16, step: Step) -> Option<Found
 
 // Where a step from the record i comes to, if it comes anywhere.
 pub fn follow(tray: &Tray, i: usize, step: Step) -> Option<Found>
-    ensures number { result ≡ followed (text_at tray.now) (recordAt tray.now.records.items i) (step_of step.entry) }
+    ensures number { result ≡ followed (text_at tray.now) (record_at tray.now.records.items i) (step_of step.entry) }
     ensures value { option_map (found_by (value_of tray.now)) result ≡ stepped (value_of tray.now i) (step_of step.entry) }
 {
     match tray.record(i) {

@@ -1,7 +1,7 @@
 use Rattle.std.proofs.Common.{◌≡◌, ◌+◌, ◌*◌, Some, sym, ap, ◌∙◌, arith}
 use Rattle.values.specs.RowsOf.{held_at}
 use Rattle.values.proofs.Listing.{nth_stepping, nth_past}
-use Rattle.values.proofs.rows.ItemsRow.item.Goals as goal
+use Rattle.values.proofs.rows_of.ItemsRow.item.Goals as goal
 
 pub returns-then-k-self : goal.returns-then-k-self
 returns-then-k-self c =

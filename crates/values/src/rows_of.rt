@@ -2,7 +2,7 @@ ghost use Rattle.std.specs.Prelude.{◌≡◌, map};
 ghost use Rattle.std.specs.Option.{option_map};
 ghost use Rattle.values.specs.Meaning.{value_of};
 ghost use Rattle.values.specs.RowsOf.{stepping, held_at, pair_at, held_value, pair_value, items_of, pairs_of, items_row, pairs_row};
-ghost use Rattle.tray.specs.Sound.{at as recordAt};
+ghost use Rattle.tray.specs.Sound.{at as record_at};
 
 use rows::row::Row;
 use tray::records::Record;
@@ -78,7 +78,7 @@ impl Row for Pairs {
 
 // The items of the record i, where it is an array or nil.
 pub fn items_of(tray: &Tray, i: usize) -> Option<Items>
-    ensures number { result ≡ items_row (recordAt tray.now.records.items i) }
+    ensures number { result ≡ items_row (record_at tray.now.records.items i) }
     ensures values { option_map (λ s. map (held_value tray.now) (map held_at (stepping s.first 1 s.count))) result ≡ items_of (value_of tray.now i) }
 {
     match tray.record(i) {
@@ -90,7 +90,7 @@ pub fn items_of(tray: &Tray, i: usize) -> Option<Items>
 
 // The entries of the record i as pairs, where it is an object.
 pub fn pairs_of(tray: &Tray, i: usize) -> Option<Pairs>
-    ensures number { result ≡ pairs_row (recordAt tray.now.records.items i) }
+    ensures number { result ≡ pairs_row (record_at tray.now.records.items i) }
     ensures values { option_map (λ s. map (pair_value tray.now) (map pair_at (stepping s.first 2 s.entries))) result ≡ pairs_of (value_of tray.now i) }
 {
     match tray.record(i) {

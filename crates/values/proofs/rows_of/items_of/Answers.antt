@@ -1,7 +1,7 @@
 use Rattle.std.proofs.Common.{refl, ap, ◌∙◌}
 use Rattle.values.specs.RowsOf.{held_at, held_value, items_row}
 use Rattle.values.proofs.Listing.{nil_row, array_row, no_items, no_items_row}
-use Rattle.values.proofs.rows.items_of.Goals as goal
+use Rattle.values.proofs.rows_of.items_of.Goals as goal
 
 pub returns-in-Nil : goal.returns-in-Nil
 returns-in-Nil c = record { number = ap items_row c.in-Nil.ensures; values = nil_row _ _ c.args.tray.now.behind _ c.in-Nil.ensures }

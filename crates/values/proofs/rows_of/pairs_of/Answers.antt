@@ -1,7 +1,7 @@
 use Rattle.std.proofs.Common.{refl, ap, ◌∙◌}
 use Rattle.values.specs.RowsOf.{pair_at, pair_value, pairs_row}
 use Rattle.values.proofs.Listing.{object_row, no_pairs, no_pairs_row}
-use Rattle.values.proofs.rows.pairs_of.Goals as goal
+use Rattle.values.proofs.rows_of.pairs_of.Goals as goal
 
 pub returns-in-Object : goal.returns-in-Object
 returns-in-Object c =
