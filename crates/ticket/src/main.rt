@@ -15,14 +15,17 @@ mod spelling;
 use crate::job::JobError;
 use anyhow::anyhow;
 use std::io::Read;
+use std::process::ExitCode;
 use std::{env, fs, io};
 
-fn main(rt: HostRuntime) -> anyhow::Result<()> {
-    let outcome = ticket(&rt);
-    if let Err(e) = &outcome {
-        let _ = eprintln!(rt; "{e}");
+fn main(rt: HostRuntime) -> ExitCode {
+    match ticket(&rt) {
+        Ok(()) => ExitCode::SUCCESS,
+        Err(e) => {
+            let _ = eprintln!(rt; "{e}");
+            ExitCode::FAILURE
+        }
     }
-    outcome
 }
 
 // What stands before a bad line is done first.
