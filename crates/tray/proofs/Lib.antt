@@ -1,3 +1,4 @@
 pub mod Decodes
 pub mod Formats
 pub mod Walks
+pub mod Same
