@@ -29,6 +29,8 @@ OWN = {
     "into-record": "step_into_record",
     "step-of": "tree_step_of",
     "symbol-of": "symbol_in",
+    "loop-field": "loop_field",
+    "loop-object": "loop_object",
 }
 # The same, in one file.
 IN_FILE = {"crates/numerals/proofs/Readings.antt": {"at-most": "at_most_lem"}}
@@ -98,7 +100,7 @@ def spelling():
     found, made = collect()
     turned = {}
     for name, kinds in found.items():
-        if not WORD.fullmatch(name) or name in made or name.startswith(("loop-", "returns", "invariant-", "measure-", "Inv-", "\u03bc-")):
+        if not WORD.fullmatch(name) or name in made or name not in OWN and name.startswith(("loop-", "returns", "invariant-", "measure-", "Inv-", "\u03bc-")):
             continue
         if name in OWN:
             new = OWN[name]

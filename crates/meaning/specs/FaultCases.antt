@@ -64,7 +64,7 @@ pub record FaultCases : Type 0 where
   pub lower_edge : Faults nothing (counted_to (negsuc (2 ^ 63 - 1))) (one_leaf (decrement 0)) 28 None 0 []
   -- {% if nil contains 1 %}
   pub in_nil : Faults nothing unset (asks (only (compares nil_literal contains (number_literal (pos 1))))) 29 None 0 []
-  pub loop-object : Faults nothing unset shows_a_loop 30 None 16 (stands 0 1 ∷ [])
+  pub loop_object : Faults nothing unset shows_a_loop 30 None 16 (stands 0 1 ∷ [])
   -- {% assign n = ".." %} of 257 bytes; 256 are kept
   pub long_text : Faults nothing unset (one_leaf (assign 0 (record { value = text_literal (replicate 257 97); filters = [] }))) 31 None 0 []
   pub long_capture :

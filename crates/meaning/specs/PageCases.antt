@@ -29,8 +29,8 @@ abbrev pub watched_b : Tree
 watched_b = block 0 ifchanged_block (arm always (leaf 15 (plain (codes "B")) done) no_arms) done
 
 -- {{ forloop.NAME }}
-abbrev pub loop-field : List ℕ → Leaf
-loop-field k = output (record { value = path forloop (key k ∷ []); filters = [] })
+abbrev pub loop_field : List ℕ → Leaf
+loop_field k = output (record { value = path forloop (key k ∷ []); filters = [] })
 
 -- {{ forloop.parentloop.index }}
 abbrev pub parent_index : Leaf
@@ -50,7 +50,7 @@ abbrev pub nested : Tree
 nested =
     over_1_to_2
     (block 0 (tablerow_block 3 (range (number_literal (pos 1)) (number_literal (pos 1))) None None None)
-    (arm has_items (leaf 0 (loop-field (codes "index")) (leaf 0 (table_field (codes "row")) (over_1_to_2 (leaf 0 parent_index (leaf 0 (loop-field (codes "rindex")) done))))) no_arms) done)
+    (arm has_items (leaf 0 (loop_field (codes "index")) (leaf 0 (table_field (codes "row")) (over_1_to_2 (leaf 0 parent_index (leaf 0 (loop_field (codes "rindex")) done))))) no_arms) done)
 
 -- {% case 5 %}{% when 4, 5 %}A{% when 5 %}B{% else %}E{% endcase %}
 abbrev pub first_when : Tree
