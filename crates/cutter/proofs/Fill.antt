@@ -69,8 +69,8 @@ module _ (src : List ℕ) where
           subst (λ (w : Words). Fills at (drop at src) w) (sym (token src at (run_at Blank src at) refl (suc n) l e (λ z. omega arith)))
           (gap at, drop (p + suc n) src, gap_joins at ∙ ap (λ l. gap at ++ l) (token_joins p (suc n)), gap_blank at, ap (λ n. at + n) (sym (gap_length at)), omega (arith, token_length_lem p (suc n)), behind_fills p (suc n) (ih (p + suc n) (omega arith)))
 
-pub tokens_fill : TokensFill
-tokens_fill inside = fills inside (length inside) 0 (omega arith)
-
 pub tokens_fill_from : TokensFillFrom
 tokens_fill_from src at = fills src (length src) at (omega arith)
+
+pub tokens_fill : TokensFill
+tokens_fill inside = tokens_fill_from inside 0

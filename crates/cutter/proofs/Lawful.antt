@@ -9,17 +9,17 @@ use Rattle.cutter.specs.Scan.{cut, cut_at}
 use Rattle.cutter.proofs.Only as unique
 use Rattle.cutter.proofs.Right as scanned
 
-pub right_cut : RightCut
-right_cut = scanned.right_cut
-
-pub only_cut : OnlyCut
-only_cut part w c = unique.only w (cut part) 0 part c (right_cut part)
-
 pub right_cut_at : RightCutAt
 right_cut_at = scanned.right_cut_at
 
+pub right_cut : RightCut
+right_cut part = right_cut_at 0 part
+
 pub only_cut_at : OnlyCutAt
 only_cut_at at part w c = unique.only w (cut_at at part) at part c (right_cut_at at part)
+
+pub only_cut : OnlyCut
+only_cut part = only_cut_at 0 part
 
 join : (w : Cut) (at : ℕ) (p : List ℕ) → Cuts at p w → Whole w → written w ≡ p
 join done at p c h = sym c
@@ -27,11 +27,11 @@ join (unclosed x) at p c h = absurd h
 join (text x t w) at p c h = ap (λ l. t ++ l) (join w _ _ c.1.2 h) ∙ sym c.1.1.joins
 join (mark k x i w) at p c h = ap (λ l. opening k ++ (i ++ (closing k ++ l))) (join w _ _ c.1.2 h) ∙ sym c.1.1.joins
 
-pub joins : Joins
-joins part h = join (cut part) 0 part (right_cut part) h
-
 pub joins_at : JoinsAt
 joins_at at part h = join (cut_at at part) at part (right_cut_at at part) h
+
+pub joins : Joins
+joins part = joins_at 0 part
 
 opens_long : (k : Kind) (b c : List ℕ) → b ≡ opening k ++ c → 2 ≤ length b
 opens_long Tag b c e = omega (arith, ap length e)
@@ -62,8 +62,8 @@ tidied (unclosed x) at p c = tt
 tidied (text x t w) at p c = (c.1.1.some, none_in_text c.1.1, tidied w _ _ c.1.2)
 tidied (mark k x i w) at p c = (none_in_mark c.1.1, tidied w _ _ c.1.2)
 
-pub tidy_pieces : TidyPieces
-tidy_pieces part = tidied (cut part) 0 part (right_cut part)
-
 pub tidy_pieces_at : TidyPiecesAt
 tidy_pieces_at at part = tidied (cut_at at part) at part (right_cut_at at part)
+
+pub tidy_pieces : TidyPieces
+tidy_pieces part = tidy_pieces_at 0 part

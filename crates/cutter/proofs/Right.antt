@@ -190,8 +190,5 @@ pub right : (bs : List ℕ) (s : State) (at : ℕ) (got : List ℕ) → Good s g
 right [] s at got g = right_end s at got g
 right (b ∷ bs) s at got g = right_byte b bs (right bs) at got s g
 
-pub right_cut : (part : List ℕ) → Cuts 0 part (scan Text 0 [] part)
-right_cut part = right part Text 0 [] (λ a b e o. omega arith)
-
 pub right_cut_at : (at : ℕ) (part : List ℕ) → Cuts at part (scan Text at [] part)
 right_cut_at at part = right part Text at [] (λ a b e o. omega arith)

@@ -83,10 +83,6 @@ tail_part p bs h = subst (λ (l : List ℕ). Part p bs (p + 1) l) (take_rest bs 
 inner_part : (p : ℕ) (bs : List ℕ) → 1 ≤ length bs → Part p bs (p + 1) (inner bs)
 inner_part p bs h = subst (λ (n : ℕ). Part p bs (p + 1) (take n (drop 1 bs))) (let e : length bs - 1 - 1 ≡ length bs - 2 = omega arith in e) (slice_part p bs 1 (length bs - 1) h)
 
--- a key of one step
-abbrev KeyInside : ℕ → List ℕ → PlacedStep → Type 0
-KeyInside p bs s = KeysInside p bs (s ∷ [])
-
 inner_inner : (p : ℕ) (bs : List ℕ) → 2 ≤ length bs → Part p bs (p + 2) (inner (inner bs))
 inner_inner p bs h = go (cases_lt 2 (length bs))
   where

@@ -31,9 +31,11 @@ written (unclosed place) = []
 written (text place t rest) = t ++ written rest
 written (mark k place inside rest) = opening k ++ (inside ++ (closing k ++ written rest))
 
+-- where all marks are closed, the pieces joined are the part
 abbrev pub Joins : Type 0
 Joins = (part : List ℕ) → Whole (cut part) → written (cut part) ≡ part
 
+-- the same of a part that begins at any place
 abbrev pub JoinsAt : Type 0
 JoinsAt = (at : ℕ) (part : List ℕ) → Whole (cut_at at part) → written (cut_at at part) ≡ part
 
@@ -44,8 +46,10 @@ Tidy (unclosed place) = Prim.Unit {0}
 Tidy (text place t rest) = (0 < length t) × ((a b : List ℕ) → t ≡ a ++ b → Opens a b → ⊥) × Tidy rest
 Tidy (mark k place inside rest) = ((a b : List ℕ) → inside ≡ a ++ b → Closes k a b → ⊥) × Tidy rest
 
+-- every cut is so
 abbrev pub TidyPieces : Type 0
 TidyPieces = (part : List ℕ) → Tidy (cut part)
 
+-- the same of a part that begins at any place
 abbrev pub TidyPiecesAt : Type 0
 TidyPiecesAt = (at : ℕ) (part : List ℕ) → Tidy (cut_at at part)

@@ -44,9 +44,11 @@ Fills at bytes (wrong place) = (gap : List ℕ) × (behind : List ℕ) × (bytes
 Fills at bytes (word place token rest) =
     (gap : List ℕ) × (behind : List ℕ) × (bytes ≡ gap ++ (token ++ behind)) × (all_blank gap ≡ true) × (place ≡ at + length gap) × (0 < length token) × Fills (place + length token) behind rest
 
+-- the tokens and the blanks between them are the inside, up to where no token begins
 abbrev pub TokensFill : Type 0
 TokensFill = (inside : List ℕ) → Fills 0 inside (tokens inside)
 
+-- the same of what stands from any place on
 abbrev pub TokensFillFrom : Type 0
 TokensFillFrom = (src : List ℕ) (at : ℕ) → Fills at (drop at src) (words_from src at)
 
