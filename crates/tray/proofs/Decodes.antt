@@ -2,7 +2,7 @@
 use Rattle.std.proofs.Common.{◌≡◌, ℕ, zero, suc, ◌<◌, List, [], ◌∷◌, ◌++◌, length, Some, None, Option, sym, refl, ap, ◌∙◌, append_assoc, arith}
 use Rattle.std.proofs.lemmas.List.{append-nil}
 use Rattle.tray.specs.declared.records.Record.{Record}
-use Rattle.tray.specs.Decode.{stop, got, one, decoded, before, onto, go_on}
+use Rattle.tray.specs.Decode.{got, one, decoded, before, onto, go_on}
 
 pub onto_more : (rs : List Record) (r : Record) (o : Option (List Record)) → onto rs (before r o) ≡ onto (rs ++ r ∷ []) o
 onto_more rs r None = refl
@@ -13,7 +13,7 @@ decoded_end zero room [] e = refl
 decoded_end (suc k) room [] e = refl
 decoded_end k room (b ∷ bs) e = absurd (omega arith)
 
-decoded_stop : (k room : ℕ) (bs : List ℕ) → 0 < length bs → stop ≡ one room bs → decoded k room bs ≡ None
+decoded_stop : (k room : ℕ) (bs : List ℕ) → 0 < length bs → None ≡ one room bs → decoded k room bs ≡ None
 decoded_stop k room [] l e = absurd (omega arith)
 decoded_stop zero room (b ∷ bs) l e = refl
 decoded_stop (suc k) room (b ∷ bs) l e = sym (ap (λ g. go_on g (decoded k room)) e)
@@ -41,7 +41,7 @@ starts rs m k room left e ek = record { is = rw (e, ek) (onto_none (decoded m ro
 pub ends : {o : Option (List Record)} {rs : List Record} {k room : ℕ} {left : List ℕ} → Loading o rs k room left → length left ≡ 0 → o ≡ Some rs
 ends {o} {rs} {k} {room} {left} inv e = inv.is ∙ ap (onto rs) (decoded_end k room left e) ∙ ap Some (append-nil rs)
 
-pub stops : {o : Option (List Record)} {rs : List Record} {k room : ℕ} {left : List ℕ} → Loading o rs k room left → stop ≡ one room left → 0 < length left → o ≡ None
+pub stops : {o : Option (List Record)} {rs : List Record} {k room : ℕ} {left : List ℕ} → Loading o rs k room left → None ≡ one room left → 0 < length left → o ≡ None
 stops {o} {rs} {k} {room} {left} inv e l = inv.is ∙ ap (onto rs) (decoded_stop k room left l e)
 
 pub steps : {o : Option (List Record)} {rs : List Record} {m room : ℕ} {left : List ℕ} → Loading o rs m room left → (r : Record) (rest : List ℕ) → got r rest ≡ one room left → (n : ℕ) → m ≡ suc n → 0 < length left → Loading o (rs ++ r ∷ []) n room rest

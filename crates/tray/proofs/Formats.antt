@@ -4,8 +4,10 @@ use Rattle.std.proofs.lemmas.List.{length-append}
 use Rattle.std.proofs.lemmas.Bool.{ne_eqb, le-ltb, cond-false}
 use Rattle.tray.specs.declared.records.Record.{Record}
 use Rattle.tray.specs.declared.records.Record.TheVariants.{Nil, Boolean, Whole, Text, Array, Object}
-use Rattle.tray.specs.Decode.{Got, stop, got, one, body, boolean, whole, text, part, u16_at, u64_at1, decoded, before, go_on, Why}
+use Rattle.tray.specs.Decode.{Got, got, one, span_in, body, boolean, whole, text, part, u16_at, u64_at1, decoded, before, go_on, Why}
+use Rattle.tray.specs.declared.records.Span.{Span}
 use Rattle.tray.specs.declared.records.OpenError.{OpenError}
+use Rattle.tray.specs.Parts.{span}
 use Rattle.tray.specs.declared.records.OpenError.TheVariants.{Refused, Memory}
 use Rattle.tray.specs.Accept.{Accepts, Never}
 use Rattle.tray.specs.Sound.{Sound}
@@ -16,12 +18,12 @@ cond_got : (b : Bool) (x y : Got) (r : Record) (rest : List ℕ) → cond b x y 
 cond_got true x y r rest e = inl (refl, e)
 cond_got false x y r rest e = inr (refl, e)
 
-not_stop : {P : Type 0} (r : Record) (rest : List ℕ) → stop ≡ got r rest → P
+not_stop : {P : Type 0} (r : Record) (rest : List ℕ) → ◌≡◌ {A = Got} None (got r rest) → P
 not_stop r rest e = let z : ◌≡◌ {A = ℕ} 0 1 = cc in absurd (omega arith)
 
 -- a test that stops is not taken
-went_on : (b : Bool) (y : Got) (r : Record) (rest : List ℕ) → cond b stop y ≡ got r rest → (b ≡ false) × (y ≡ got r rest)
-went_on b y r rest e = ⊎_elim (λ p. not_stop r rest p.1) (λ p. p) (cond_got b stop y r rest e)
+went_on : (b : Bool) (y : Got) (r : Record) (rest : List ℕ) → cond b None y ≡ got r rest → (b ≡ false) × (y ≡ got r rest)
+went_on b y r rest e = ⊎_elim (λ p. not_stop r rest p.1) (λ p. p) (cond_got b None y r rest e)
 
 -- the bytes of one record, and what is behind them
 pub record Front (room : ℕ) (bs : List ℕ) (r : Record) (rest : List ℕ) : Type 0 where
@@ -31,9 +33,8 @@ pub record Front (room : ℕ) (bs : List ℕ) (r : Record) (rest : List ℕ) : T
 
 as_got : (room : ℕ) (bs : List ℕ) (s : Record) (left : List ℕ) (r : Record) (rest : List ℕ) → got s left ≡ got r rest → Front room bs s left → Front room bs r rest
 as_got room bs s left r rest e f =
-    let p : s ≡ r = cc in
-    let q : left ≡ rest = cc in
-    subst (λ x. Front room bs x rest) p (subst (λ x. Front room bs s x) q f)
+    let z : ◌≡◌ {A = Record × List ℕ} (s, left) (r, rest) = cc in
+    subst (λ (p : Record × List ℕ). Front room bs p.0 p.1) z f
 
 module _ (room : ℕ) where
   nil_front : (bs : List ℕ) (r : Record) (rest : List ℕ) → 0 < length bs → get_or bs 0 0 ≡ 0 → got Nil (drop 1 bs) ≡ got r rest → Front room bs r rest
@@ -74,7 +75,7 @@ module _ (room : ℕ) where
           (record { front = 2 ∷ a ∷ b ∷ c ∷ d ∷ x ∷ f ∷ g ∷ y ∷ []; spelt = a_whole a b c d x f g y; joined = ap (λ z. z ∷ a ∷ b ∷ c ∷ d ∷ x ∷ f ∷ g ∷ y ∷ t) h })
 
   -- a text, an array or an object: a kind, then two numbers
-  two_front : (k : ℕ) (mk : ℕ → ℕ → Record) (bs : List ℕ) (r : Record) (rest : List ℕ) → get_or bs 0 0 ≡ k → 5 ≤ length bs → ((p q n m : ℕ) → u16_at bs 1 ≡ little (p ∷ q ∷ []) → u16_at bs 3 ≡ little (n ∷ m ∷ []) → RecordBytes room (k ∷ p ∷ q ∷ n ∷ m ∷ []) (mk (little (p ∷ q ∷ [])) (little (n ∷ m ∷ [])))) → got (mk (u16_at bs 1) (u16_at bs 3)) (drop 5 bs) ≡ got r rest → Front room bs r rest
+  two_front : (k : ℕ) (mk : Span → Record) (bs : List ℕ) (r : Record) (rest : List ℕ) → get_or bs 0 0 ≡ k → 5 ≤ length bs → ((p q n m : ℕ) → u16_at bs 1 ≡ little (p ∷ q ∷ []) → u16_at bs 3 ≡ little (n ∷ m ∷ []) → RecordBytes room (k ∷ p ∷ q ∷ n ∷ m ∷ []) (mk (span (little (p ∷ q ∷ [])) (little (n ∷ m ∷ []))))) → got (mk (span_in bs)) (drop 5 bs) ≡ got r rest → Front room bs r rest
   two_front k mk [] r rest h l spell e = absurd (omega arith)
   two_front k mk (a ∷ []) r rest h l spell e = absurd (omega arith)
   two_front k mk (a ∷ p ∷ []) r rest h l spell e = absurd (omega arith)
@@ -83,7 +84,7 @@ module _ (room : ℕ) where
   two_front k mk (a ∷ p ∷ q ∷ n ∷ m ∷ t) r rest h l spell e =
       let x : p + q * 256 ≡ little (p ∷ q ∷ []) = omega arith in
       let y : n + m * 256 ≡ little (n ∷ m ∷ []) = omega arith in
-      as_got room _ (mk (little (p ∷ q ∷ [])) (little (n ∷ m ∷ []))) t r rest (ap (λ z. got (mk z (little (n ∷ m ∷ []))) t) (sym x) ∙ ap (λ z. got (mk (p + q * 256) z) t) (sym y) ∙ e)
+      as_got room _ (mk (span (little (p ∷ q ∷ [])) (little (n ∷ m ∷ [])))) t r rest (ap (λ z. got (mk (span z (little (n ∷ m ∷ [])))) t) (sym x) ∙ ap (λ z. got (mk (span (p + q * 256) z)) t) (sym y) ∙ e)
       (record { front = k ∷ p ∷ q ∷ n ∷ m ∷ []; spelt = spell p q n m x y; joined = ap (λ z. z ∷ p ∷ q ∷ n ∷ m ∷ t) h })
 
   text_front : (bs : List ℕ) (r : Record) (rest : List ℕ) → get_or bs 0 0 ≡ 3 → text room bs ≡ got r rest → Front room bs r rest
@@ -95,7 +96,7 @@ module _ (room : ℕ) where
       let inside : u16_at bs 1 + u16_at bs 3 ≤ room = ltb-false _ _ s.0 in
       two_front 3 Text bs r rest k (ltb-false _ _ p.0) (λ p q n m x y. a_text p q n m (omega arith) (omega arith)) s.1
 
-  part_front : (k : ℕ) (mk : ℕ → ℕ → Record) → ((p q n m : ℕ) → RecordBytes room (k ∷ p ∷ q ∷ n ∷ m ∷ []) (mk (little (p ∷ q ∷ [])) (little (n ∷ m ∷ [])))) → (bs : List ℕ) (r : Record) (rest : List ℕ) → get_or bs 0 0 ≡ k → part mk bs ≡ got r rest → Front room bs r rest
+  part_front : (k : ℕ) (mk : Span → Record) → ((p q n m : ℕ) → RecordBytes room (k ∷ p ∷ q ∷ n ∷ m ∷ []) (mk (span (little (p ∷ q ∷ [])) (little (n ∷ m ∷ []))))) → (bs : List ℕ) (r : Record) (rest : List ℕ) → get_or bs 0 0 ≡ k → part mk bs ≡ got r rest → Front room bs r rest
   part_front k mk spell bs r rest h e =
       let p = went_on (ltb (length bs) 5) _ r rest e in
       two_front k mk bs r rest h (ltb-false _ _ p.0) (λ p q n m x y. spell p q n m) p.1
@@ -122,28 +123,28 @@ module _ (room : ℕ) where
 
   -- a record's first byte is its kind
   one_some : (k : ℕ) (t : List ℕ) → one room (k ∷ t) ≡ body k room (k ∷ t)
-  one_some k t = cond-false (eqb (suc (length t)) 0) stop _ (ne_eqb _ _ (λ e. omega arith))
+  one_some k t = cond-false (eqb (suc (length t)) 0) None _ (ne_eqb _ _ (λ e. omega arith))
 
-  long_enough : (n : ℕ) (bs : List ℕ) (x : Got) → n ≤ length bs → cond (ltb (length bs) n) stop x ≡ x
-  long_enough n bs x l = cond-false (ltb (length bs) n) stop x (le-ltb _ _ l)
+  long_enough : (n : ℕ) (bs : List ℕ) (x : Got) → n ≤ length bs → cond (ltb (length bs) n) None x ≡ x
+  long_enough n bs x l = cond-false (ltb (length bs) n) None x (le-ltb _ _ l)
 
-  part_one : (mk : ℕ → ℕ → Record) (k p q n m : ℕ) (rest : List ℕ) → part mk (k ∷ p ∷ q ∷ n ∷ m ∷ rest) ≡ got (mk (little (p ∷ q ∷ [])) (little (n ∷ m ∷ []))) rest
+  part_one : (mk : Span → Record) (k p q n m : ℕ) (rest : List ℕ) → part mk (k ∷ p ∷ q ∷ n ∷ m ∷ rest) ≡ got (mk (span (little (p ∷ q ∷ [])) (little (n ∷ m ∷ [])))) rest
   part_one mk k p q n m rest =
       let x : p + q * 256 ≡ little (p ∷ q ∷ []) = omega arith in
       let y : n + m * 256 ≡ little (n ∷ m ∷ []) = omega arith in
-      long_enough 5 (k ∷ p ∷ q ∷ n ∷ m ∷ rest) _ (omega arith) ∙ ap (λ z. got (mk z (n + m * 256)) rest) x ∙ ap (λ z. got (mk (little (p ∷ q ∷ [])) z) rest) y
+      long_enough 5 (k ∷ p ∷ q ∷ n ∷ m ∷ rest) _ (omega arith) ∙ ap (λ z. got (mk (span z (n + m * 256))) rest) x ∙ ap (λ z. got (mk (span (little (p ∷ q ∷ [])) z)) rest) y
 
-  text_one : (p q n m : ℕ) (rest : List ℕ) → little (n ∷ m ∷ []) ≤ 256 → little (p ∷ q ∷ []) + little (n ∷ m ∷ []) ≤ room → text room (3 ∷ p ∷ q ∷ n ∷ m ∷ rest) ≡ got (Text (little (p ∷ q ∷ [])) (little (n ∷ m ∷ []))) rest
+  text_one : (p q n m : ℕ) (rest : List ℕ) → little (n ∷ m ∷ []) ≤ 256 → little (p ∷ q ∷ []) + little (n ∷ m ∷ []) ≤ room → text room (3 ∷ p ∷ q ∷ n ∷ m ∷ rest) ≡ got (Text (span (little (p ∷ q ∷ [])) (little (n ∷ m ∷ [])))) rest
   text_one p q n m rest l i =
       let x : p + q * 256 ≡ little (p ∷ q ∷ []) = omega arith in
       let y : n + m * 256 ≡ little (n ∷ m ∷ []) = omega arith in
       long_enough 5 (3 ∷ p ∷ q ∷ n ∷ m ∷ rest) _ (omega arith)
-      ∙ cond-false (ltb 256 (n + m * 256)) stop _ (le-ltb _ _ (omega arith))
-      ∙ cond-false (ltb room (p + q * 256 + (n + m * 256))) stop _ (le-ltb _ _ (omega arith))
-      ∙ ap (λ z. got (Text z (n + m * 256)) rest) x ∙ ap (λ z. got (Text (little (p ∷ q ∷ [])) z) rest) y
+      ∙ cond-false (ltb 256 (n + m * 256)) None _ (le-ltb _ _ (omega arith))
+      ∙ cond-false (ltb room (p + q * 256 + (n + m * 256))) None _ (le-ltb _ _ (omega arith))
+      ∙ ap (λ z. got (Text (span z (n + m * 256))) rest) x ∙ ap (λ z. got (Text (span (little (p ∷ q ∷ [])) z)) rest) y
 
   -- what is spelt there is read
-  front_one : {front : List ℕ} {r : Record} → RecordBytes room front r → (rest : List ℕ) → one room (front ++ rest) ≡ got r rest
+  pub front_one : {front : List ℕ} {r : Record} → RecordBytes room front r → (rest : List ℕ) → one room (front ++ rest) ≡ got r rest
   front_one a_nil rest = one_some 0 rest
   front_one a_false rest = one_some 1 (0 ∷ rest) ∙ long_enough 2 (1 ∷ (0 ∷ rest)) _ (omega arith)
   front_one a_true rest = one_some 1 (1 ∷ rest) ∙ long_enough 2 (1 ∷ (1 ∷ rest)) _ (omega arith)
@@ -187,8 +188,8 @@ module _ (room : ℕ) where
   rest_is k bs r rest rs g (Some tail) h e = subst (Read (suc k) bs) (some_is (r ∷ tail) rs e) (one_more k bs r rest tail g (h tail refl))
 
   first_is : (k : ℕ) (bs : List ℕ) (rs : List Record) (g : Got) → one room bs ≡ g → ((rest : List ℕ) (tail : List Record) → decoded k room rest ≡ Some tail → Read k rest tail) → go_on g (decoded k room) ≡ Some rs → Read (suc k) bs rs
-  first_is k bs rs stop h later e = no_records rs e
-  first_is k bs rs (got r rest) h later e = rest_is k bs r rest rs h (decoded k room rest) (later rest) e
+  first_is k bs rs None h later e = no_records rs e
+  first_is k bs rs (Some p) h later e = rest_is k bs p.0 p.1 rs h (decoded k room p.1) (later p.1) e
 
   pub read_spelt : (k : ℕ) (bs : List ℕ) (rs : List Record) → decoded k room bs ≡ Some rs → Read k bs rs
   read_spelt zero [] rs e = no_more zero rs e

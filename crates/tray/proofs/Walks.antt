@@ -2,6 +2,7 @@
 use Rattle.std.proofs.Common.{◌≡◌, ℕ, ◌+◌, ◌-◌, ◌*◌, ◌<◌, ◌≤◌, Bool, true, false, ◌⊎◌, List, length, get_or, set, sym, refl, ap, ◌∙◌, subst, inl, inr, ⊎_elim, arith}
 use Rattle.std.proofs.lemmas.Bool.{cases_lt, both_ways, cases_eq, false≢true}
 use Rattle.std.proofs.lemmas.List.{get_or_past, get_or-set_same, get_or-set_other}
+use Rattle.tray.specs.declared.records.Span.{Span}
 use Rattle.tray.specs.declared.records.Record.{Record}
 use Rattle.tray.specs.declared.records.Record.TheVariants.{Nil, Object}
 use Rattle.tray.specs.Sound.{at, first_of, width_of, Holds, HeldOnce, Held, Took, Barred, Keyed, KeysText, is_object, is_text}
@@ -69,82 +70,77 @@ walk_all {rs} {n} {marks} w le = record { behind = λ h c x. w.behind h c (lt h 
     lt h c x = ⊎_elim (λ l. l) (λ ge. absurd (past rs h c (omega arith) x)) (cases_lt h n)
 
 -- one more record marked
-pub hold_more : {h from i : ℕ} {old marks : List Bool} → Took h from i old marks → length marks ≡ length old → h < from + i → from + i < length old → (Held marks (from + i) → ⊥) → Took h from (i + 1) old (set marks (from + i) true)
-hold_more {h} {from} {i} {old} {marks} t el lh ll nh =
-    record { behind = behind; inside = inside; free = free; into = into; kept = λ c x. grows c (t.kept c x); back = back }
+pub hold_more : {h from c : ℕ} {old marks : List Bool} → Took h from (c - from) old marks → from ≤ c → length marks ≡ length old → h < c → c < length old → (Held marks c → ⊥) → Took h from (c + 1 - from) old (set marks c true)
+hold_more {h} {from} {c} {old} {marks} t fc el lh ll nh =
+    record { behind = behind; inside = inside; free = free; into = into; kept = λ k x. grows k (t.kept k x); back = back }
   where
-    is_here : (P : ℕ → Type 0) (c : ℕ) → c < from + (i + 1) → (c < from + i → P c) → P (from + i) → P c
-    is_here P c hi f g = ⊎_elim f (λ ge. let e : from + i ≡ c = omega arith in subst P e g) (cases_lt c (from + i))
+    is_here : (P : ℕ → Type 0) (k : ℕ) → k < from + (c + 1 - from) → (k < from + (c - from) → P k) → P c → P k
+    is_here P k hi f g = ⊎_elim (λ l. f (omega arith)) (λ ge. let e : c ≡ k = omega arith in subst P e g) (cases_lt k c)
 
-    same : Held (set marks (from + i) true) (from + i)
-    same = get_or-set_same marks (from + i) true false (omega arith)
+    same : Held (set marks c true) c
+    same = get_or-set_same marks c true false (omega arith)
 
-    grows : (c : ℕ) → Held marks c → Held (set marks (from + i) true) c
-    grows c x =
-        ⊎_elim (λ e. let P : ℕ → Type 0 = Held (set marks (from + i) true) in subst P (sym e) same)
-        (λ ne. get_or-set_other marks (from + i) c true false ne ∙ x) (cases_eq c (from + i))
+    grows : (k : ℕ) → Held marks k → Held (set marks c true) k
+    grows k x =
+        ⊎_elim (λ e. let P : ℕ → Type 0 = Held (set marks c true) in subst P (sym e) same)
+        (λ ne. get_or-set_other marks c k true false ne ∙ x) (cases_eq k c)
 
-    behind : (c : ℕ) → from ≤ c → c < from + (i + 1) → h < c
-    behind c lo hi = is_here (λ c. h < c) c hi (t.behind c lo) lh
+    behind : (k : ℕ) → from ≤ k → k < from + (c + 1 - from) → h < k
+    behind k lo hi = is_here (λ k. h < k) k hi (t.behind k lo) lh
 
-    inside : (c : ℕ) → from ≤ c → c < from + (i + 1) → c < length old
-    inside c lo hi = is_here (λ c. c < length old) c hi (t.inside c lo) ll
+    inside : (k : ℕ) → from ≤ k → k < from + (c + 1 - from) → k < length old
+    inside k lo hi = is_here (λ k. k < length old) k hi (t.inside k lo) ll
 
-    free : (c : ℕ) → from ≤ c → c < from + (i + 1) → Held old c → ⊥
-    free c lo hi = is_here (λ c. Held old c → ⊥) c hi (t.free c lo) (λ x. nh (t.kept (from + i) x))
+    free : (k : ℕ) → from ≤ k → k < from + (c + 1 - from) → Held old k → ⊥
+    free k lo hi = is_here (λ k. Held old k → ⊥) k hi (t.free k lo) (λ x. nh (t.kept c x))
 
-    into : (c : ℕ) → from ≤ c → c < from + (i + 1) → Held (set marks (from + i) true) c
-    into c lo hi = is_here (Held (set marks (from + i) true)) c hi (λ l. grows c (t.into c lo l)) same
+    into : (k : ℕ) → from ≤ k → k < from + (c + 1 - from) → Held (set marks c true) k
+    into k lo hi = is_here (Held (set marks c true)) k hi (λ l. grows k (t.into k lo l)) same
 
-    back : (c : ℕ) → Held (set marks (from + i) true) c → Held old c ⊎ ((from ≤ c) × (c < from + (i + 1)))
-    back c x =
+    back : (k : ℕ) → Held (set marks c true) k → Held old k ⊎ ((from ≤ k) × (k < from + (c + 1 - from)))
+    back k x =
         ⊎_elim (λ e. inr (omega arith, omega arith))
-        (λ ne. ⊎_elim inl (λ p. inr (p.0, omega (arith, p.1))) (t.back c (sym (get_or-set_other marks (from + i) c true false ne) ∙ x))) (cases_eq c (from + i))
+        (λ ne. ⊎_elim inl (λ p. inr (p.0, omega (arith, p.1))) (t.back k (sym (get_or-set_other marks c k true false ne) ∙ x))) (cases_eq k c)
 
-pub hold_none : (h from : ℕ) (marks : List Bool) → Took h from 0 marks marks
-hold_none h from marks = record { behind = λ c lo hi. absurd (omega arith); inside = λ c lo hi. absurd (omega arith); free = λ c lo hi. absurd (omega arith); into = λ c lo hi. absurd (omega arith); kept = λ c x. x; back = λ c x. inl x }
+pub hold_none : (h from width : ℕ) (marks : List Bool) → width ≡ 0 → Took h from width marks marks
+hold_none h from width marks e = record { behind = λ c lo hi. absurd (omega arith); inside = λ c lo hi. absurd (omega arith); free = λ c lo hi. absurd (omega arith); into = λ c lo hi. absurd (omega arith); kept = λ c x. x; back = λ c x. inl x }
 
-pub hold_barred : {h from i : ℕ} {old marks : List Bool} → Took h from i old marks → length marks ≡ length old → (width : ℕ) → i < width → (from + i ≤ h) ⊎ ((length marks ≤ from + i) ⊎ Held marks (from + i)) → Barred h from width old
-hold_barred {h} {from} {i} {old} {marks} t el width l w = record { c = from + i; low = omega arith; high = omega arith; why = ⊎_elim inl (⊎_elim (λ p. inr (inl (omega arith))) (λ x. ⊎_elim (λ o. inr (inr o)) (λ p. absurd (omega (arith, p.1))) (t.back (from + i) x))) w }
-
--- the loop ends at the width
-pub hold_all : {h from i : ℕ} {old marks : List Bool} → Took h from i old marks → (width : ℕ) → i ≡ width → Took h from width old marks
-hold_all {h} {from} {i} {old} {marks} t width e = subst (λ w. Took h from w old marks) e t
+pub hold_barred : {h from c : ℕ} {old marks : List Bool} → Took h from (c - from) old marks → from ≤ c → length marks ≡ length old → (width : ℕ) → c < from + width → (c ≤ h) ⊎ ((length marks ≤ c) ⊎ Held marks c) → Barred h from width old
+hold_barred {h} {from} {c} {old} {marks} t fc el width l w = record { c = c; low = omega arith; high = omega arith; why = ⊎_elim inl (⊎_elim (λ p. inr (inl (omega arith))) (λ x. ⊎_elim (λ o. inr (inr o)) (λ p. absurd (omega (arith, p.1))) (t.back c x))) w }
 
 -- what an object holds lies inside
-pub span_inside : {rs : List Record} → HeldOnce rs → (h f n : ℕ) → at rs h ≡ Object f n → 0 < n → f + 2 * n ≤ length rs
-span_inside {rs} s h f n e l =
-    let lo : first_of (at rs h) ≡ f = ap first_of e in
-    let wi : width_of (at rs h) ≡ 2 * n = ap width_of e in
-    omega (arith, s.inside h (f + 2 * n - 1) (record { low = omega arith; high = omega arith }))
+pub span_inside : {rs : List Record} → HeldOnce rs → (h : ℕ) (s : Span) → at rs h ≡ Object s → 0 < s.count → s.first + 2 * s.count ≤ length rs
+span_inside {rs} held h s e l =
+    let lo : first_of (at rs h) ≡ s.first = ap first_of e in
+    let wi : width_of (at rs h) ≡ 2 * s.count = ap width_of e in
+    omega (arith, held.inside h (s.first + 2 * s.count - 1) (record { low = omega arith; high = omega arith }))
 
 -- the objects below n have texts for keys
 pub record Keying (rs : List Record) (n : ℕ) : Type 0 where
-  pub so : (h f k : ℕ) → h < n → at rs h ≡ Object f k → Keyed rs f k
+  pub so : (h : ℕ) (s : Span) → h < n → at rs h ≡ Object s → Keyed rs s.first s.count
 
 pub keys_none : (rs : List Record) → Keying rs 0
-keys_none rs = record { so = λ h f k l. absurd (omega arith) }
+keys_none rs = record { so = λ h s l. absurd (omega arith) }
 
-pub keys_more : {rs : List Record} {n : ℕ} → Keying rs n → ((f k : ℕ) → at rs n ≡ Object f k → Keyed rs f k) → Keying rs (n + 1)
-keys_more {rs} {n} s here = record { so = go }
+pub keys_more : {rs : List Record} {n : ℕ} → Keying rs n → ((s : Span) → at rs n ≡ Object s → Keyed rs s.first s.count) → Keying rs (n + 1)
+keys_more {rs} {n} k here = record { so = go }
   where
-    go : (h f k : ℕ) → h < n + 1 → at rs h ≡ Object f k → Keyed rs f k
-    go h f k l e =
-        ⊎_elim (λ lt. s.so h f k lt e) (λ ge. let q : h ≡ n = omega arith in here f k (ap (at rs) (sym q) ∙ e)) (cases_lt h n)
+    go : (h : ℕ) (s : Span) → h < n + 1 → at rs h ≡ Object s → Keyed rs s.first s.count
+    go h s l e =
+        ⊎_elim (λ lt. k.so h s lt e) (λ ge. let q : h ≡ n = omega arith in here s (ap (at rs) (sym q) ∙ e)) (cases_lt h n)
 
--- what holds of an object's first record and count holds however they were read
-pub as_read : (P : ℕ → ℕ → Type 0) (r : Record) (f n g k : ℕ) → r ≡ Object f n → r ≡ Object g k → P f n → P g k
-as_read P r f n g k e d x =
-    let p : f ≡ g = cc in
-    let q : n ≡ k = cc in
-    subst (λ m. P m k) p (subst (λ m. P f m) q x)
+-- what holds of an object's span holds however it was read
+pub as_read : (P : Span → Type 0) (r : Record) (s t : Span) → r ≡ Object s → r ≡ Object t → P s → P t
+as_read P r s t e d x =
+    let p : s ≡ t = cc in
+    subst P p x
 
 pub keys_all : {rs : List Record} {n : ℕ} → Keying rs n → length rs ≤ n → KeysText rs
-keys_all {rs} {n} s le c x = subst (λ p. is_text (at rs p) ≡ true) x.place (all x.h x.f x.n x.is x.j x.below)
+keys_all {rs} {n} k le c x = subst (λ p. is_text (at rs p) ≡ true) x.place (all x.h x.s x.is x.j x.below)
   where
-    all : (h f k : ℕ) → at rs h ≡ Object f k → Keyed rs f k
-    all h f k e =
-        ⊎_elim (λ lt. s.so h f k lt e) (λ ge. let z : Nil ≡ Object f k = sym (get_or_past rs h Nil (omega arith)) ∙ e in absurd (false≢true (ap is_object z))) (cases_lt h n)
+    all : (h : ℕ) (s : Span) → at rs h ≡ Object s → Keyed rs s.first s.count
+    all h s e =
+        ⊎_elim (λ lt. k.so h s lt e) (λ ge. let z : Nil ≡ Object s = sym (get_or_past rs h Nil (omega arith)) ∙ e in absurd (false≢true (ap is_object z))) (cases_lt h n)
 
-pub keys_here : (rs : List Record) → KeysText rs → (h f n : ℕ) → at rs h ≡ Object f n → Keyed rs f n
-keys_here rs s h f n e j l = s (f + 2 * j) (record { h = h; f = f; n = n; j = j; is = e; below = l; place = refl })
+pub keys_here : (rs : List Record) → KeysText rs → (h : ℕ) (s : Span) → at rs h ≡ Object s → Keyed rs s.first s.count
+keys_here rs k h s e j l = k (s.first + 2 * j) (record { h = h; s = s; j = j; is = e; below = l; place = refl })

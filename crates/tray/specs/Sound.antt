@@ -1,5 +1,6 @@
 -- Which records make a tray.
 use Rattle.std.specs.Prelude.{◌≡◌, ℕ, ◌+◌, ◌*◌, ◌<◌, ◌≤◌, Bool, true, false, ◌||◌, ◌⊎◌, List, length, codes, slice_index_or}
+use Rattle.tray.specs.declared.records.Span.{Span}
 use Rattle.tray.specs.declared.records.Record.{Record}
 use Rattle.tray.specs.declared.records.Record.TheVariants.{Nil, Boolean, Whole, Text, Array, Object}
 use Rattle.tray.specs.Parts.{key_of, same_text}
@@ -12,33 +13,33 @@ abbrev pub first_of : Record → ℕ
 first_of Nil = 0
 first_of (Boolean b) = 0
 first_of (Whole z) = 0
-first_of (Text p n) = 0
-first_of (Array f n) = f
-first_of (Object f n) = f
+first_of (Text s) = 0
+first_of (Array s) = s.first
+first_of (Object s) = s.first
 
 abbrev pub width_of : Record → ℕ
 width_of Nil = 0
 width_of (Boolean b) = 0
 width_of (Whole z) = 0
-width_of (Text p n) = 0
-width_of (Array f n) = n
-width_of (Object f n) = 2 * n
+width_of (Text s) = 0
+width_of (Array s) = s.count
+width_of (Object s) = 2 * s.count
 
 abbrev pub is_text : Record → Bool
 is_text Nil = false
 is_text (Boolean b) = false
 is_text (Whole z) = false
-is_text (Text p n) = true
-is_text (Array f n) = false
-is_text (Object f n) = false
+is_text (Text s) = true
+is_text (Array s) = false
+is_text (Object s) = false
 
 abbrev pub is_object : Record → Bool
 is_object Nil = false
 is_object (Boolean b) = false
 is_object (Whole z) = false
-is_object (Text p n) = false
-is_object (Array f n) = false
-is_object (Object f n) = true
+is_object (Text s) = false
+is_object (Array s) = false
+is_object (Object s) = true
 
 -- the record h holds the record c
 pub record Holds (rs : List Record) (h c : ℕ) : Type 0 where
@@ -71,12 +72,11 @@ Keyed rs f n = (j : ℕ) → j < n → is_text (at rs (f + 2 * j)) ≡ true
 -- the record c is the key of the entry j of the object h
 pub record KeyOf (rs : List Record) (c : ℕ) : Type 0 where
   pub h : ℕ
-  pub f : ℕ
-  pub n : ℕ
+  pub s : Span
   pub j : ℕ
-  pub is : at rs h ≡ Object f n
-  pub below : j < n
-  pub place : f + 2 * j ≡ c
+  pub is : at rs h ≡ Object s
+  pub below : j < s.count
+  pub place : s.first + 2 * j ≡ c
 
 abbrev pub KeysText : List Record → Type 0
 KeysText rs = (c : ℕ) → KeyOf rs c → is_text (at rs c) ≡ true
@@ -94,7 +94,7 @@ Free rs text f n = (j : ℕ) → j < n → reserved (key_of text (at rs (f + 2 *
 
 -- record 0 holds the host names, and none of them is reserved
 abbrev pub Unreserved : List Record → List ℕ → Type 0
-Unreserved rs text = (f n : ℕ) → at rs 0 ≡ Object f n → Free rs text f n
+Unreserved rs text = (s : Span) → at rs 0 ≡ Object s → Free rs text s.first s.count
 
 -- records that make a tray, beside its text
 pub record Sound (rs : List Record) (text : List ℕ) : Type 0 where

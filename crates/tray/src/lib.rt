@@ -1,4 +1,4 @@
-// Host data: records that a host lays out as bytes, and the text that they cite.
+//! Host data: records that a host lays out as bytes, and the text that they cite.
 
 #![tactic(auto)]
 
@@ -6,7 +6,7 @@ mod decode;
 mod holders;
 mod judging;
 mod loading;
-mod names;
+pub mod names;
 mod opening;
 pub mod parts;
 pub mod records;

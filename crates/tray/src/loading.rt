@@ -2,7 +2,7 @@ ghost use Rattle.std.specs.Prelude.{◌≡◌, Some, None, MatchResult};
 ghost use Rattle.tray.specs.Decode.{decoded, Why};
 
 use crate::decode::read_one;
-use crate::records::{OpenError, Read, Record};
+use crate::records::{OpenError, Record};
 use std::alloc::Global;
 
 pub(crate) fn load(
@@ -15,19 +15,15 @@ pub(crate) fn load(
 {
     let mut records = Vec::new(heap);
     let mut left = bytes;
-    while left.len() > 0 {
+    while !left.is_empty() {
         if records.len() >= most {
             return Err(OpenError::Refused);
         }
-        match read_one(left, room) {
-            Read::Stop => return Err(OpenError::Refused),
-            Read::Got(record, rest) => {
-                if records.push(record).is_err() {
-                    return Err(OpenError::Memory);
-                }
-                left = rest;
-            }
-        }
+        let Some((record, rest)) = read_one(left, room) else {
+            return Err(OpenError::Refused);
+        };
+        records.push(record)?;
+        left = rest;
     }
     Ok(records)
 }

@@ -1,26 +1,28 @@
-ghost use Rattle.std.specs.Prelude.{◌≡◌, ◌+◌, ◌*◌, ◌≤◌, length, Decides};
+//! Names that belong to the language and not to hosts.
+ghost use Rattle.std.specs.Prelude.{◌≡◌, ◌+◌, ◌*◌, ◌<◌, ◌≤◌, length, Decides};
 ghost use Rattle.tray.specs.Sound.{reserved, Free};
 
 use crate::parts::{key_of, same_text};
-use crate::records::Record;
+use crate::records::{Record, Span};
 
-// Whether a name belongs to the language and not to hosts.
-fn is_reserved(name: &[u8]) -> bool
+/// Whether a name belongs to the language.
+pub fn is_reserved(name: &[u8]) -> bool
     ensures { result ≡ reserved name.now }
 {
+    // A `match` on the four words is no plainer: it is proved byte by byte, in 33 cases.
     same_text(name, b"forloop")
         || same_text(name, b"tablerowloop")
         || same_text(name, b"empty")
         || same_text(name, b"blank")
 }
 
-// Whether no key of `count` entries is a reserved name.
-pub(crate) fn names_free(records: &[Record], text: &[u8], from: usize, count: usize) -> bool
-    requires { from + 2 * count ≤ length records.now }
-    ensures { Decides result (Free records.now text.now from count) }
+// Whether no key of the entries is a reserved name.
+pub(crate) fn names_free(records: &[Record], text: &[u8], entries: Span) -> bool
+    requires { 0 < entries.count → entries.first + 2 * entries.count ≤ length records.now }
+    ensures { Decides result (Free records.now text.now entries.first entries.count) }
 {
-    for j in 0..count {
-        if is_reserved(key_of(text, records[from + 2 * j])) {
+    for j in 0..entries.count {
+        if is_reserved(key_of(text, records[entries.key(j)])) {
             return false;
         }
     }

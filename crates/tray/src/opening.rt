@@ -1,4 +1,5 @@
-ghost use Rattle.std.specs.Prelude.{◌≡◌, length, Some, None, MatchResult};
+ghost use Rattle.std.specs.Prelude.{◌≡◌, length, MatchResult};
+ghost use Rattle.tray.specs.declared.records.OpenError.TheVariants.{Memory};
 ghost use Rattle.tray.specs.Accept.{Accepts, Never};
 ghost use Rattle.tray.specs.Decode.{Why, number_of};
 ghost use Rattle.tray.specs.Parts.{key_of};
@@ -9,10 +10,26 @@ use crate::loading::load;
 use crate::parts::key_of;
 use crate::records::{OpenError, Record};
 use crate::trays::Tray;
-use std::alloc::Global;
+use std::alloc::{AllocError, AllocFailed, Global};
+
+impl From<AllocError> for OpenError {
+    ghost from_gives = { λ _ e. e ≡ Memory };
+
+    fn from(_e: AllocError) -> OpenError {
+        OpenError::Memory
+    }
+}
+
+impl<T: Drop> From<AllocFailed<T>> for OpenError {
+    ghost from_gives = { λ _ e. e ≡ Memory };
+
+    fn from(_e: AllocFailed<T>) -> OpenError {
+        OpenError::Memory
+    }
+}
 
 impl OpenError {
-    // The number of the refusal; want of memory has none.
+    /// The number of the refusal; want of memory has none.
     pub fn number(self) -> Option<u8>
         ensures { result ≡ number_of self }
     {
@@ -24,40 +41,33 @@ impl OpenError {
 }
 
 impl<'a> Tray<'a> {
-    // Opens host data: the bytes of its records, and the text that they cite.
-    // It is refused exactly where the bytes are those of no tray.
+    /// Opens host data: the bytes of its records, and the text that they cite.
+    /// It is refused exactly where the bytes are those of no tray.
     pub fn open(heap: Global, bytes: &[u8], text: &'a [u8]) -> Result<Tray<'a>, OpenError>
         ensures { MatchResult result (λ t. Accepts bytes.now text.now t.records.items × (t.text.now ≡ text.now)) (λ e. Why e (Never bytes.now text.now)) }
     {
-        let records = match load(heap, bytes, text.len(), 2048) {
-            Ok(records) => records,
-            Err(e) => return Err(e),
-        };
+        let records = load(heap, bytes, text.len(), 2048)?;
         if !sound(heap, records.as_slice(), text)? {
             return Err(OpenError::Refused);
         }
         Ok(Tray { records, text })
     }
 
-    // How many records there are.
+    /// How many records there are.
     pub fn count(&self) -> usize
         ensures { result ≡ length self.now.records.items }
     {
         self.records.len()
     }
 
-    // A record by number; past the end there is only nil.
+    /// A record by number; past the end there is only nil.
     pub fn record(&self, i: usize) -> Record
         ensures { result ≡ record_at self.now.records.items i }
     {
-        if i < self.records.len() {
-            self.records[i]
-        } else {
-            Record::Nil
-        }
+        self.records.get(i).copied().unwrap_or(Record::Nil)
     }
 
-    // The bytes of a text record; of any other, none.
+    /// The bytes of a text record; of any other, none.
     pub fn text_of(&self, i: usize) -> &'a [u8]
         ensures { result.now ≡ key_of self.now.text.now (record_at self.now.records.items i) }
     {

@@ -2,7 +2,7 @@ ghost use Rattle.tray.specs.Sound.{Rooted, Behind, Inside, Once, KeysText};
 
 use crate::records::Record;
 
-// Host data: records that make a tray, with the text that they cite.
+/// Host data: records that make a tray, with the text that they cite.
 #[derive(Drop)]
 pub struct Tray<'a> {
     pub(crate) records: Vec<Record>,
