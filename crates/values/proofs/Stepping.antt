@@ -2,6 +2,7 @@
 use Rattle.std.proofs.Common.{◌≡◌, ℕ, zero, suc, ◌+◌, ◌-◌, ◌<◌, ◌≤◌, Bool, true, false, cond, ltb, List, ℤ, pos, negsuc, Some, None, codes, Option, sym, refl, ap, ◌∙◌, ⊎_elim, arith}
 use Rattle.std.specs.Option.{option_map}
 use Rattle.std.proofs.lemmas.Bool.{cases_Bool, cond-true, cond-false, ltb-true, ltb-false}
+use Rattle.tray.specs.declared.records.Span.{Span}
 use Rattle.tray.specs.declared.records.Record.{Record}
 use Rattle.tray.specs.declared.records.Record.TheVariants.{Nil, Boolean, Whole, Text, Array, Object}
 use Rattle.tray.specs.Parts.{same_text}
@@ -91,34 +92,34 @@ follows_value : (tx : List ℕ) (key : ℕ → List ℕ) (f : ℕ → Value) (r 
 follows_value tx key f Nil s = refl
 follows_value tx key f (Boolean b) s = refl
 follows_value tx key f (Whole z) s = refl
-follows_value tx key f (Text p n) s = refl
-follows_value tx key f (Array i n) s = items_mean f i n s
-follows_value tx key f (Object i n) s = entries_mean key f i n (step_text s)
+follows_value tx key f (Text r) s = refl
+follows_value tx key f (Array r) s = items_mean f r.first r.count s
+follows_value tx key f (Object r) s = entries_mean key f r.first r.count (step_text s)
 
 member_value : (tx : List ℕ) (key : ℕ → List ℕ) (f : ℕ → Value) (r : Record) (k : List ℕ) → option_map f (member_number key r k) ≡ member (shape tx key f r) k
 member_value tx key f Nil k = refl
 member_value tx key f (Boolean b) k = refl
 member_value tx key f (Whole z) k = refl
-member_value tx key f (Text p n) k = refl
-member_value tx key f (Array i n) k = refl
-member_value tx key f (Object i n) k = number_value k key f i n
+member_value tx key f (Text i) k = refl
+member_value tx key f (Array i) k = refl
+member_value tx key f (Object s) k = number_value k key f s.first s.count
 
 -- no other record has members, or steps
-pub no_number : (key : ℕ → List ℕ) (r : Record) (k : List ℕ) → ((i n : ℕ) → r ≡ Object i n → ⊥) → None ≡ member_number key r k
+pub no_number : (key : ℕ → List ℕ) (r : Record) (k : List ℕ) → ((i : Span) → r ≡ Object i → ⊥) → None ≡ member_number key r k
 no_number key Nil k o = refl
 no_number key (Boolean b) k o = refl
 no_number key (Whole z) k o = refl
-no_number key (Text p n) k o = refl
-no_number key (Array i n) k o = refl
-no_number key (Object i n) k o = absurd (o i n refl)
+no_number key (Text i) k o = refl
+no_number key (Array i) k o = refl
+no_number key (Object i) k o = absurd (o i refl)
 
-pub no_step : (key : ℕ → List ℕ) (r : Record) (s : Step) → ((i n : ℕ) → r ≡ Array i n → ⊥) → ((i n : ℕ) → r ≡ Object i n → ⊥) → None ≡ followed key r s
+pub no_step : (key : ℕ → List ℕ) (r : Record) (s : Step) → ((i : Span) → r ≡ Array i → ⊥) → ((i : Span) → r ≡ Object i → ⊥) → None ≡ followed key r s
 no_step key Nil s a o = refl
 no_step key (Boolean b) s a o = refl
 no_step key (Whole z) s a o = refl
-no_step key (Text p n) s a o = refl
-no_step key (Array i n) s a o = absurd (a i n refl)
-no_step key (Object i n) s a o = absurd (o i n refl)
+no_step key (Text i) s a o = refl
+no_step key (Array i) s a o = absurd (a i refl)
+no_step key (Object i) s a o = absurd (o i refl)
 
 module _ (rs : List Record) (tx : List ℕ) (b : Behind rs) (i : ℕ) where
   -- the number of a record tells its value

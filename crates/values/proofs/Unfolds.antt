@@ -2,6 +2,7 @@
 use Rattle.std.proofs.Common.{◌≡◌, ℕ, zero, suc, ◌+◌, ◌-◌, ◌*◌, ◌<◌, ◌≤◌, Bool, false, List, length, sym, refl, ap, ◌∙◌, ap₂, ⊎_elim, arith}
 use Rattle.std.proofs.lemmas.List.{get_or_past}
 use Rattle.std.proofs.lemmas.Bool.{cases_lt}
+use Rattle.tray.specs.declared.records.Span.{Span}
 use Rattle.tray.specs.declared.records.Record.{Record}
 use Rattle.tray.specs.declared.records.Record.TheVariants.{Nil, Boolean, Whole, Text, Array, Object}
 use Rattle.tray.specs.Parts.{key_of}
@@ -28,9 +29,9 @@ shape_same : (tx : List ℕ) (key : ℕ → List ℕ) (f g : ℕ → Value) (r :
 shape_same tx key f g Nil h = refl
 shape_same tx key f g (Boolean b) h = refl
 shape_same tx key f g (Whole z) h = refl
-shape_same tx key f g (Text p n) h = refl
-shape_same tx key f g (Array i n) h = ap array (items_same f g i n h)
-shape_same tx key f g (Object i n) h = ap object (entries_same key f g i n h)
+shape_same tx key f g (Text s) h = refl
+shape_same tx key f g (Array s) h = ap array (items_same f g s.first s.count h)
+shape_same tx key f g (Object s) h = ap object (entries_same key f g s.first s.count h)
 
 past_nil : (rs : List Record) (tx : List ℕ) (f : ℕ → Value) (i : ℕ) → length rs ≤ i → shape tx (key_at rs tx) f (at rs i) ≡ nil
 past_nil rs tx f i l = ap (shape tx (key_at rs tx) f) (get_or_past rs i Nil l)
@@ -61,32 +62,32 @@ lies rs i r b s e h =
     let w : width_of r ≡ width_of (at rs i) = ap width_of e in
     (past rs i r (sym e) h, λ z. (omega (arith, b i (first_of r) (record { low = omega arith; high = omega arith })), omega (arith, s i (first_of r + width_of r - 1) (record { low = omega arith; high = omega arith }))))
 
-pub array_lies : (rs : List Record) (i f n : ℕ) → Behind rs → Inside rs → Array f n ≡ at rs i → Below i f n (length rs)
-array_lies rs i f n b s e = lies rs i (Array f n) b s e (λ z. let o : ◌≡◌ {A = ℕ} 0 1 = cc in absurd (omega arith))
+pub array_lies : (rs : List Record) (i : ℕ) (s : Span) → Behind rs → Inside rs → Array s ≡ at rs i → Below i s.first s.count (length rs)
+array_lies rs i s b h e = lies rs i (Array s) b h e (λ z. let o : ◌≡◌ {A = ℕ} 0 1 = cc in absurd (omega arith))
 
-pub object_lies : (rs : List Record) (i f n : ℕ) → Behind rs → Inside rs → Object f n ≡ at rs i → Below i f (2 * n) (length rs)
-object_lies rs i f n b s e = lies rs i (Object f n) b s e (λ z. let o : ◌≡◌ {A = ℕ} 0 1 = cc in absurd (omega arith))
+pub object_lies : (rs : List Record) (i : ℕ) (s : Span) → Behind rs → Inside rs → Object s ≡ at rs i → Below i s.first (2 * s.count) (length rs)
+object_lies rs i s b h e = lies rs i (Object s) b h e (λ z. let o : ◌≡◌ {A = ℕ} 0 1 = cc in absurd (omega arith))
 
 pub both : (rs : List Record) (tx : List ℕ) (a b : ℕ) (r s : Record) → Behind rs → r ≡ at rs a → s ≡ at rs b → equal (value_at rs tx a) (value_at rs tx b) ≡ equal (shape tx (key_at rs tx) (value_at rs tx) r) (shape tx (key_at rs tx) (value_at rs tx) s)
 both rs tx a b r s h er es = ap₂ equal (stands rs tx a r h er) (stands rs tx b s h es)
 
-pub not_array : (tx : List ℕ) (key : ℕ → List ℕ) (f : ℕ → Value) (p : Items → Bool) (s : Record) → ((i n : ℕ) → s ≡ Array i n → ⊥) → false ≡ is_array p (shape tx key f s)
+pub not_array : (tx : List ℕ) (key : ℕ → List ℕ) (f : ℕ → Value) (p : Items → Bool) (s : Record) → ((i : Span) → s ≡ Array i → ⊥) → false ≡ is_array p (shape tx key f s)
 not_array tx key f p Nil h = refl
 not_array tx key f p (Boolean b) h = refl
 not_array tx key f p (Whole z) h = refl
-not_array tx key f p (Text q n) h = refl
-not_array tx key f p (Array i n) h = absurd (h i n refl)
-not_array tx key f p (Object i n) h = refl
+not_array tx key f p (Text i) h = refl
+not_array tx key f p (Array i) h = absurd (h i refl)
+not_array tx key f p (Object i) h = refl
 
-pub not_object : (tx : List ℕ) (key : ℕ → List ℕ) (f : ℕ → Value) (p : Entries → Bool) (s : Record) → ((i n : ℕ) → s ≡ Object i n → ⊥) → false ≡ is_object p (shape tx key f s)
+pub not_object : (tx : List ℕ) (key : ℕ → List ℕ) (f : ℕ → Value) (p : Entries → Bool) (s : Record) → ((i : Span) → s ≡ Object i → ⊥) → false ≡ is_object p (shape tx key f s)
 not_object tx key f p Nil h = refl
 not_object tx key f p (Boolean b) h = refl
 not_object tx key f p (Whole z) h = refl
-not_object tx key f p (Text q n) h = refl
-not_object tx key f p (Array i n) h = refl
-not_object tx key f p (Object i n) h = absurd (h i n refl)
+not_object tx key f p (Text i) h = refl
+not_object tx key f p (Array i) h = refl
+not_object tx key f p (Object i) h = absurd (h i refl)
 
 -- a text beside another record
-pub text_both : (rs : List Record) (tx : List ℕ) (a b p n : ℕ) → Behind rs → Text p n ≡ at rs a → equal (value_at rs tx a) (value_at rs tx b) ≡ is_text (key_at rs tx a) (shape tx (key_at rs tx) (value_at rs tx) (at rs b))
-text_both rs tx a b p n h e =
-    both rs tx a b (Text p n) (at rs b) h e refl ∙ ap (λ k. is_text k (shape tx (key_at rs tx) (value_at rs tx) (at rs b))) (ap (key_of tx) e)
+pub text_both : (rs : List Record) (tx : List ℕ) (a b : ℕ) (p : Span) → Behind rs → Text p ≡ at rs a → equal (value_at rs tx a) (value_at rs tx b) ≡ is_text (key_at rs tx a) (shape tx (key_at rs tx) (value_at rs tx) (at rs b))
+text_both rs tx a b p h e =
+    both rs tx a b (Text p) (at rs b) h e refl ∙ ap (λ k. is_text k (shape tx (key_at rs tx) (value_at rs tx) (at rs b))) (ap (key_of tx) e)

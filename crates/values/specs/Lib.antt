@@ -4,4 +4,3 @@ pub mod Steps
 pub mod Numbers
 pub mod Found
 pub mod RowsOf
-pub mod Keys

@@ -22,9 +22,9 @@ abbrev pub shape : List ℕ → (ℕ → List ℕ) → (ℕ → Value) → Recor
 shape tx key f Nil = nil
 shape tx key f (Boolean b) = boolean b
 shape tx key f (Whole z) = whole z
-shape tx key f (Text p n) = text (cut tx p n)
-shape tx key f (Array i n) = array (items_from f i n)
-shape tx key f (Object i n) = object (entries_from key f i n)
+shape tx key f (Text s) = text (cut tx s.first s.count)
+shape tx key f (Array s) = array (items_from f s.first s.count)
+shape tx key f (Object s) = object (entries_from key f s.first s.count)
 
 abbrev pub key_at : List Record → List ℕ → ℕ → List ℕ
 key_at rs tx i = key_of tx (at rs i)

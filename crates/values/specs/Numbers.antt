@@ -18,9 +18,9 @@ abbrev pub member_number : (ℕ → List ℕ) → Record → List ℕ → Option
 member_number key Nil k = None
 member_number key (Boolean b) k = None
 member_number key (Whole z) k = None
-member_number key (Text p n) k = None
-member_number key (Array f n) k = None
-member_number key (Object f n) k = entry_number key k f n
+member_number key (Text s) k = None
+member_number key (Array s) k = None
+member_number key (Object s) k = entry_number key k s.first s.count
 
 -- the place of an index from 0, or of a negative one from the end, among n
 abbrev pub place_of : ℕ → ℤ → Option ℕ
@@ -52,6 +52,6 @@ abbrev pub followed : (ℕ → List ℕ) → Record → Step → Option Found
 followed key Nil s = None
 followed key (Boolean b) s = None
 followed key (Whole z) s = None
-followed key (Text p n) s = None
-followed key (Array f n) s = among_items f n s
-followed key (Object f n) s = among_entries key f n (step_text s)
+followed key (Text r) s = None
+followed key (Array r) s = among_items r.first r.count s
+followed key (Object r) s = among_entries key r.first r.count (step_text s)

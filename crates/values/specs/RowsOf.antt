@@ -1,12 +1,10 @@
 -- The values that a loop may go over, as lists.
 use Rattle.std.specs.Prelude.{ℕ, zero, suc, ◌+◌, List, [], ◌∷◌, Some, None, Option}
 use Rattle.tray.specs.declared.trays.Tray.{Tray}
-use Rattle.values.specs.declared.rows_of.Held.{Held}
-use Rattle.values.specs.declared.rows_of.Pair.{Pair}
-use Rattle.values.specs.declared.rows_of.Items.{Items as ItemsRow}
-use Rattle.values.specs.declared.rows_of.Pairs.{Pairs as PairsRow}
+use Rattle.values.specs.declared.rows_of.Parts.{Parts}
 use Rattle.tray.specs.declared.records.Record.{Record}
 use Rattle.tray.specs.declared.records.Record.TheVariants.{Nil, Boolean, Whole, Text, Array, Object}
+use Rattle.tray.specs.Parts.{span}
 use Rattle.values.specs.Value.{Value, nil, boolean, whole, text, array, object, Items, none, item, Entries, empty, entry}
 use Rattle.values.specs.Meaning.{value_of}
 
@@ -19,21 +17,13 @@ abbrev pub listed : Items → List Value
 listed none = []
 listed (item v vs) = v ∷ listed vs
 
-abbrev pub held_at : ℕ → Held
-held_at i = record { number = i }
-
-abbrev pub pair_at : ℕ → Pair
-pair_at i = record { key = i }
-
 -- a pair is an array of a key and its value
 abbrev pub paired : Value → Value → Value
 paired k v = array (item k (item v none))
 
-abbrev pub held_value : Tray → Held → Value
-held_value t h = value_of t h.number
-
-abbrev pub pair_value : Tray → Pair → Value
-pair_value t p = paired (value_of t p.key) (value_of t (p.key + 1))
+-- the pair whose key is record i
+abbrev pub pair_value : Tray → ℕ → Value
+pair_value t i = paired (value_of t i) (value_of t (i + 1))
 
 abbrev pub pairs_listed : Entries → List Value
 pairs_listed empty = []
@@ -57,19 +47,19 @@ pairs_of (text t) = None
 pairs_of (array xs) = None
 pairs_of (object es) = Some (pairs_listed es)
 
--- the rows of a record, by the records that it holds
-abbrev pub items_row : Record → Option ItemsRow
-items_row Nil = Some (record { first = 0; count = 0 })
+-- the rows of a record, by the span of what it holds
+abbrev pub items_row : Record → Option (Parts 1)
+items_row Nil = Some (record { span = span 0 0 })
 items_row (Boolean b) = None
 items_row (Whole z) = None
-items_row (Text p n) = None
-items_row (Array f n) = Some (record { first = f; count = n })
-items_row (Object f n) = None
+items_row (Text s) = None
+items_row (Array s) = Some (record { span = s })
+items_row (Object s) = None
 
-abbrev pub pairs_row : Record → Option PairsRow
+abbrev pub pairs_row : Record → Option (Parts 2)
 pairs_row Nil = None
 pairs_row (Boolean b) = None
 pairs_row (Whole z) = None
-pairs_row (Text p n) = None
-pairs_row (Array f n) = None
-pairs_row (Object f n) = Some (record { first = f; entries = n })
+pairs_row (Text s) = None
+pairs_row (Array s) = None
+pairs_row (Object s) = Some (record { span = s })

@@ -1,4 +1,4 @@
-// What the records of a tray stand for, the steps into a value, and the rows that a loop may go over.
+//! What the records of a tray stand for, the steps into a value, and the rows that a loop may go over.
 
 #![tactic(auto)]
 

@@ -1,4 +1,5 @@
-ghost use Rattle.std.specs.Prelude.{◌≡◌, ◌+◌};
+//! Steps into a value.
+ghost use Rattle.std.specs.Prelude.{◌≡◌};
 ghost use Rattle.std.specs.Option.{option_map};
 ghost use Rattle.tray.specs.Sound.{at as record_at};
 ghost use Rattle.values.specs.Meaning.{value_of, text_at};
@@ -9,108 +10,99 @@ ghost use Rattle.values.specs.Found.{found_by, step_of};
 use crate::finds::find_in;
 use numerals::write_whole;
 use tray::parts::same_text;
-use tray::records::Record;
+use tray::records::{Record, Span};
 use tray::trays::Tray;
 
-// One step of a path: a number, or a name or key.
-#[derive(Clone, Copy)]
+/// One step of a path: a number, or a name or key.
+#[derive(Clone, Copy, Debug)]
 pub enum Step<'a> {
     Number(i64),
     Name(&'a [u8]),
 }
 
-// Where a step comes to: a record, or how many records there are.
-#[derive(Clone, Copy)]
+/// Where a step comes to: a record, or how many records there are.
+#[derive(Clone, Copy, Debug, PartialEq, Eq)]
 pub enum Found {
     Record(usize),
     Size(usize),
 }
 
 // The place of an index from 0, or of a negative one from the end, among `count`.
-fn place(count: u16, z: i64) -> Option<usize>
+fn place(count: u16, z: i64) -> Option<u16>
     ensures { result ≡ place_of count z }
 {
-    let n = count as i64;
-    if z >= 0 && z < n {
-        Some(z as usize)
-    } else if z < 0 && z >= -n {
-        Some((n + z) as usize)
+    let n = i64::from(count);
+    let k = if z < 0 { n + z } else { z };
+    if 0 <= k && k < n {
+        Some(k as u16)
     } else {
         None
     }
 }
 
-fn item(first: u16, count: u16, z: i64) -> Option<Found>
-    ensures { result ≡ item_found first count z }
+fn item(items: Span, z: i64) -> Option<Found>
+    ensures { result ≡ item_found items.first items.count z }
 {
-    match place(count, z) {
-        Some(k) => Some(Found::Record(first as usize + k)),
-        None => None,
-    }
+    place(items.count, z).map(|k| Found::Record(items.item(k)))
 }
 
-fn item_named(first: u16, count: u16, name: &[u8]) -> Option<Found>
-    ensures { result ≡ item_named_found first count name.now }
+fn item_named(items: Span, name: &[u8]) -> Option<Found>
+    ensures { result ≡ item_named_found items.first items.count name.now }
 {
+    // A `match` on the words is no plainer: it is proved byte by byte.
     if same_text(name, b"first") {
-        return item(first, count, 0);
+        return item(items, 0);
     }
     if same_text(name, b"last") {
-        return item(first, count, -1);
+        return item(items, -1);
     }
     if same_text(name, b"size") {
-        return Some(Found::Size(count as usize));
+        return Some(Found::Size(items.count as usize));
     }
     None
 }
 
-fn into_items(first: u16, count: u16, step: Step) -> Option<Found>
-    ensures { result ≡ among_items first count (step_of step.entry) }
+fn into_items(items: Span, step: Step) -> Option<Found>
+    ensures { result ≡ among_items items.first items.count (step_of step.entry) }
 {
     match step {
-        Step::Number(z) => item(first, count, z),
-        Step::Name(name) => item_named(first, count, name),
+        Step::Number(z) => item(items, z),
+        Step::Name(name) => item_named(items, name),
     }
 }
 
-fn entry_named(tray: &Tray, first: u16, count: u16, name: &[u8]) -> Option<Found>
-    ensures { result ≡ among_entries (text_at tray.now) first count name.now }
+fn entry_named(tray: &Tray, entries: Span, name: &[u8]) -> Option<Found>
+    ensures { result ≡ among_entries (text_at tray.now) entries.first entries.count name.now }
 {
-    match find_in(tray, first, count, name) {
+    match find_in(tray, entries, name) {
         Some(i) => Some(Found::Record(i)),
-        None => {
-            if same_text(name, b"size") {
-                Some(Found::Size(count as usize))
-            } else {
-                None
-            }
-        }
+        None if same_text(name, b"size") => Some(Found::Size(entries.count as usize)),
+        None => None,
     }
 }
 
-fn into_entries(tray: &Tray, first: u16, count: u16, step: Step) -> Option<Found>
-    ensures { result ≡ among_entries (text_at tray.now) first count (step_text (step_of step.entry)) }
+fn into_entries(tray: &Tray, entries: Span, step: Step) -> Option<Found>
+    ensures { result ≡ among_entries (text_at tray.now) entries.first entries.count (step_text (step_of step.entry)) }
 {
     match step {
         Step::Number(z) => {
+            // Fixed memory: a step is taken while a ticket is rendered, which never allocates.
             let mut text = [0u8; 20];
-            match write_whole(z, &mut text) {
-                Some(n) => entry_named(tray, first, count, &text[0..n]),
-                None => None,
-            }
+            let n = write_whole(z, &mut text)?;
+            entry_named(tray, entries, &text[0..n])
         }
-        Step::Name(name) => entry_named(tray, first, count, name),
+        Step::Name(name) => entry_named(tray, entries, name),
     }
 }
 
-// Where a step from the record i comes to, if it comes anywhere.
+/// Where a step from the record i comes to, if it comes anywhere.
 pub fn follow(tray: &Tray, i: usize, step: Step) -> Option<Found>
     ensures number { result ≡ followed (text_at tray.now) (record_at tray.now.records.items i) (step_of step.entry) }
     ensures value { option_map (found_by (value_of tray.now)) result ≡ stepped (value_of tray.now i) (step_of step.entry) }
 {
     match tray.record(i) {
-        Record::Array(first, n) => into_items(first, n, step),
-        Record::Object(first, n) => into_entries(tray, first, n, step),
+        Record::Array(items) => into_items(items, step),
+        Record::Object(entries) => into_entries(tray, entries, step),
         _ => None,
     }
 }

@@ -1,11 +1,10 @@
-use Rattle.std.proofs.Common.{refl, ap, ◌∙◌}
-use Rattle.values.specs.RowsOf.{pair_at, pair_value, pairs_row}
+use Rattle.std.proofs.Common.{ap, ◌∙◌}
+use Rattle.values.specs.RowsOf.{pairs_row}
 use Rattle.values.proofs.Listing.{object_row, no_pairs, no_pairs_row}
 use Rattle.values.proofs.rows_of.pairs_of.Goals as goal
 
-pub returns-in-Object : goal.returns-in-Object
-returns-in-Object c =
-    record { number = ap pairs_row c.in-Object.ensures; values = object_row _ _ c.args.tray.now.behind _ pair_at (pair_value c.args.tray.now) (λ i. refl) c.args.tray.now.keys _ _ c.in-Object.ensures }
+pub returns-in-Object-clause-values : goal.returns-in-Object-clause-values
+returns-in-Object-clause-values c = object_row _ _ c.args.tray.now.behind _ c.args.tray.now.keys _ c.in-Object.ensures
 
 pub returns-in_default : goal.returns-in_default
 returns-in_default c =

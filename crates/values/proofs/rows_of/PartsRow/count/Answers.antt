@@ -1,6 +1,6 @@
 use Rattle.std.proofs.Common.{sym}
 use Rattle.values.proofs.Listing.{length_stepping}
-use Rattle.values.proofs.rows_of.PairsRow.count.Goals as goal
+use Rattle.values.proofs.rows_of.PartsRow.count.Goals as goal
 
 pub returns : goal.returns
-returns c = sym (length_stepping _ _ 2 _)
+returns g c = sym (length_stepping _ _ _)

@@ -1,6 +1,0 @@
-use Rattle.std.proofs.Common.{sym}
-use Rattle.values.proofs.Listing.{length_stepping}
-use Rattle.values.proofs.finds.KeysRow.count.Goals as goal
-
-pub returns : goal.returns
-returns c = sym (length_stepping _ _ 2 _)

@@ -1,6 +1,0 @@
-use Rattle.std.proofs.Common.{sym}
-use Rattle.values.proofs.Listing.{length_stepping}
-use Rattle.values.proofs.rows_of.ItemsRow.count.Goals as goal
-
-pub returns : goal.returns
-returns c = sym (length_stepping _ _ 1 _)
