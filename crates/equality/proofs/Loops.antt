@@ -1,7 +1,8 @@
 -- Loops over items and entries: what is left gives the answer.
-use Rattle.std.proofs.Common.{◌≡◌, ℕ, zero, suc, ◌+◌, ◌*◌, ◌<◌, ◌≤◌, Bool, true, false, ◌&&◌, ◌||◌, List, is_some, Some, None, Option, sym, refl, ap, ◌∙◌, ap₂}
+use Rattle.std.proofs.Common.{◌≡◌, ℤ, ℕ, zero, suc, ◌+◌, ◌*◌, ◌<◌, ◌≤◌, Bool, true, false, ◌&&◌, ◌||◌, List, is_some, Some, None, Option, sym, refl, ap, ◌∙◌, ap₂, eqb, w64, SFits, of_z, rules}
 use Rattle.std.specs.Option.{option_map}
-use Rattle.values.specs.Value.{Value, Entries, empty, find, within, equal, equal_items, agrees, found}
+use mathlib.Core.Bool.{beq}
+use Rattle.values.specs.Value.{Value, Entries, empty, find, within, equal, equal_items, agrees, found, same_boolean, same_whole}
 use Rattle.values.specs.Meaning.{items_from, entries_from}
 use Rattle.values.proofs.Rests.{items_left, entries_left, items_none, items_all, items_more, entries_none, entries_all, entries_more, put_more}
 
@@ -104,3 +105,13 @@ and_goes x y r e h = h ∙ ap (λ b. b && y) e
 
 pub and_stops : (x y r : Bool) → false ≡ x → r ≡ false → r ≡ (x && y)
 and_stops x y r e h = h ∙ ap (λ b. b && y) e
+
+-- what the code compares
+pub booleans_same : (a b : Bool) → beq a b ≡ same_boolean a b
+booleans_same true true = refl
+booleans_same true false = refl
+booleans_same false true = refl
+booleans_same false false = refl
+
+pub wholes_same : (a b : ℤ) → SFits w64 a → SFits w64 b → eqb (of_z w64 a) (of_z w64 b) ≡ same_whole a b
+wholes_same a b p q = search rules

@@ -1,32 +1,23 @@
-// When two values of a tray are equal.
+//! When two values of a tray are equal.
 
 #![tactic(auto)]
 
-ghost use Rattle.std.specs.Prelude.{◌≡◌, ℕ, ◌+◌, ◌*◌, ◌<◌, ◌≤◌, true};
+ghost use Rattle.std.specs.Prelude.{◌≡◌, ◌*◌};
 ghost use Rattle.values.specs.Value.{equal as are_equal, equal_items, agrees as all_agree, within as all_in, empty};
 ghost use Rattle.values.specs.Meaning.{value_of, text_at, count_of, items_from, entries_from, Below};
 ghost use Rattle.equality.specs.Laws.{ObjectsAgree, EqualsItself, EqualEitherWay};
 
-use crate::parts::{is_boolean, is_nil, is_text, is_whole};
-use tray::records::Record;
+use tray::parts::same_text;
+use tray::records::{Record, Span};
 use tray::trays::Tray;
 use values::finds::find_in;
 
-mod parts;
-
-// Whether each key of the first entries is one of the others.
-fn within(tray: &Tray, first: u16, count: u16, other: u16, others: u16) -> bool
-    ensures { result ≡ all_in (entries_from (text_at tray.now) (value_of tray.now) first count) (entries_from (text_at tray.now) (value_of tray.now) other others) }
+// Whether each key of the entries is one of the others.
+fn within(tray: &Tray, entries: Span, others: Span) -> bool
+    ensures { result ≡ all_in (entries_from (text_at tray.now) (value_of tray.now) entries.first entries.count) (entries_from (text_at tray.now) (value_of tray.now) others.first others.count) }
 {
-    for j in 0..count {
-        if find_in(
-            tray,
-            other,
-            others,
-            tray.text_of(first as usize + 2 * j as usize),
-        )
-        .is_none()
-        {
+    for j in 0..entries.count {
+        if find_in(tray, others, tray.text_of(entries.key(j))).is_none() {
             return false;
         }
     }
@@ -38,33 +29,27 @@ fn within(tray: &Tray, first: u16, count: u16, other: u16, others: u16) -> bool
 fn equal_at(tray: &Tray, a: usize, b: usize) -> bool
     ensures { result ≡ are_equal (value_of tray.now a) (value_of tray.now b) }
 {
-    let other = tray.record(b);
-    match tray.record(a) {
-        Record::Nil => is_nil(other),
-        Record::Boolean(x) => is_boolean(x, other),
-        Record::Whole(x) => is_whole(x, other),
-        Record::Text(_, _) => is_text(tray, a, b),
-        Record::Array(f, n) => match other {
-            Record::Array(g, m) => equal_items(tray, a, f, n, g, m),
-            _ => false,
-        },
-        Record::Object(f, n) => match other {
-            Record::Object(g, m) => agrees(tray, a, f, n, g, m) && within(tray, g, m, f, n),
-            _ => false,
-        },
+    match (tray.record(a), tray.record(b)) {
+        (Record::Nil, Record::Nil) => true,
+        (Record::Boolean(x), Record::Boolean(y)) => x == y,
+        (Record::Whole(x), Record::Whole(y)) => x == y,
+        (Record::Text(_), Record::Text(_)) => same_text(tray.text_of(a), tray.text_of(b)),
+        (Record::Array(s), Record::Array(t)) => equal_items(tray, a, s, t),
+        (Record::Object(s), Record::Object(t)) => agrees(tray, a, s, t) && within(tray, t, s),
+        _ => false,
     }
 }
 
 #[cycle(equal_values)]
-fn equal_items(tray: &Tray, holder: usize, f: u16, n: u16, g: u16, m: u16) -> bool
-    requires { Below holder f n (count_of tray.now) }
-    ensures { result ≡ equal_items (items_from (value_of tray.now) f n) (items_from (value_of tray.now) g m) }
+fn equal_items(tray: &Tray, holder: usize, s: Span, t: Span) -> bool
+    requires { Below holder s.first s.count (count_of tray.now) }
+    ensures { result ≡ equal_items (items_from (value_of tray.now) s.first s.count) (items_from (value_of tray.now) t.first t.count) }
 {
-    if n != m {
+    if s.count != t.count {
         return false;
     }
-    for j in 0..n {
-        if !equal_at(tray, f as usize + j as usize, g as usize + j as usize) {
+    for j in 0..s.count {
+        if !equal_at(tray, s.item(j), t.item(j)) {
             return false;
         }
     }
@@ -73,28 +58,30 @@ fn equal_items(tray: &Tray, holder: usize, f: u16, n: u16, g: u16, m: u16) -> bo
 
 // Whether each entry that no earlier one hides finds an equal value in the other object.
 #[cycle(equal_values)]
-fn agrees(tray: &Tray, holder: usize, f: u16, n: u16, g: u16, m: u16) -> bool
-    requires { Below holder f (2 * n) (count_of tray.now) }
-    ensures { result ≡ all_agree (entries_from (text_at tray.now) (value_of tray.now) f n) empty (entries_from (text_at tray.now) (value_of tray.now) g m) }
+fn agrees(tray: &Tray, holder: usize, s: Span, t: Span) -> bool
+    requires { Below holder s.first (2 * s.count) (count_of tray.now) }
+    ensures { result ≡ all_agree (entries_from (text_at tray.now) (value_of tray.now) s.first s.count) empty (entries_from (text_at tray.now) (value_of tray.now) t.first t.count) }
 {
-    for j in 0..n {
-        let at = f as usize + 2 * j as usize;
+    for j in 0..s.count {
+        let at = s.key(j);
         let key = tray.text_of(at);
-        if find_in(tray, f, j, key).is_none() {
-            match find_in(tray, g, m, key) {
-                None => return false,
-                Some(c) => {
-                    if !equal_at(tray, at + 1, c) {
-                        return false;
-                    }
-                }
+        let earlier = Span {
+            first: s.first,
+            count: j,
+        };
+        if find_in(tray, earlier, key).is_none() {
+            let Some(c) = find_in(tray, t, key) else {
+                return false;
+            };
+            if !equal_at(tray, at + 1, c) {
+                return false;
             }
         }
     }
     true
 }
 
-// Whether two records of a tray, by number, stand for equal values.
+/// Whether two records of a tray, by number, stand for equal values.
 pub fn equal(tray: &Tray, a: usize, b: usize) -> bool
     ensures value { result ≡ are_equal (value_of tray.now a) (value_of tray.now b) }
     ensures objects { ObjectsAgree }

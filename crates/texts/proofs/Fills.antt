@@ -1,11 +1,10 @@
 -- Texts laid one behind another, and loops that lay what an array or an object holds.
-use Rattle.std.proofs.Common.{◌≡◌, ℕ, ◌+◌, ◌-◌, ◌*◌, ◌<◌, ◌≤◌, List, [], ◌++◌, length, take, drop, Option, sym, ap, ◌∙◌, subst, arith}
+use Rattle.std.proofs.Common.{◌≡◌, ℕ, ◌+◌, ◌-◌, ◌<◌, ◌≤◌, List, [], ◌++◌, length, take, drop, Option, sym, ap, ◌∙◌, subst, arith}
 use Rattle.std.proofs.lemmas.List.{append_assoc, append-nil, length-append, length-drop, length-take-le, take_at, drop_at, drop-drop, drop_all, take_rest, take-append-drop}
 use borrow.Rule.Slice.PartMut.{put_mid}
-use Rattle.values.specs.Value.{Value, written, written_items, written_entries}
-use Rattle.values.specs.Meaning.{items_from, entries_from}
+use Rattle.values.specs.Value.{Value, written}
 use Rattle.texts.specs.Written.{Laid, LaidAt, Lays}
-use Rattle.values.proofs.Rests.{items_left, entries_left, items_none, items_all, items_more, entries_none, entries_all, entries_more}
+use Rattle.texts.proofs.LeafTexts.{written_all, all_more, all_done}
 
 -- nothing is laid
 pub lay_none : (from : ℕ) (old : List ℕ) → LaidAt from [] old old from
@@ -60,52 +59,25 @@ pub lays_as : (a old new : List ℕ) (r : Option ℕ) → Lays a old new r → {
 lays_as a old new r x {b} e = subst (λ t. Lays t old new r) (sym e) x
 
 -- what is laid, with what is to come, is the whole
-pub record Items (f : ℕ → Value) (first n j from : ℕ) (old new : List ℕ) (end : ℕ) : Type 0 where
+pub record Laying (f : ℕ → Value) (whole : List ℕ) (c stop from : ℕ) (old new : List ℕ) (end : ℕ) : Type 0 where
   pub done : List ℕ
   pub laid : LaidAt from done old new end
-  pub is : done ++ written_items (items_left f first n j) ≡ written_items (items_from f first n)
+  pub is : done ++ written_all f c (stop - c) ≡ whole
 
-pub items_start : (f : ℕ → Value) (first n from : ℕ) (old : List ℕ) → Items f first n 0 from old old from
-items_start f first n from old = record { done = []; laid = lay_none from old; is = ap written_items (items_none f first n) }
+module _ {f : ℕ → Value} {whole : List ℕ} {from : ℕ} {old : List ℕ} where
+  pub laying_start : (own : List ℕ) (first stop : ℕ) {new : List ℕ} {end : ℕ} → whole ≡ own ++ written_all f first (stop - first) → LaidAt from own old new end → Laying f whole first stop from old new end
+  laying_start own first stop e x = record { done = own; laid = x; is = sym e }
 
--- what is to come begins with the part, and has room
-pub items_room : {f : ℕ → Value} {first n j from : ℕ} {old new : List ℕ} {end : ℕ} → Items f first n j from old new end → j < n → from + length (written_items (items_from f first n)) ≤ length old → end + length (written (f (first + j))) ≤ length old
-items_room {f} {first} {n} {j} {from} {old} {new} {end} inv l r =
-    let whole : length inv.done + length (written_items (items_left f first n j)) ≡ length (written_items (items_from f first n)) = sym (length-append inv.done _) ∙ ap length inv.is in
-    let part : length (written_items (items_left f first n j)) ≡ length (written (f (first + j))) + length (written_items (items_left f first n (j + 1))) = ap (λ x. length (written_items x)) (items_more f first n j l) ∙ length-append (written (f (first + j))) _ in
-    omega (arith, inv.laid.long)
+  -- what is to come begins with the part, and has room
+  pub laying_room : {c stop : ℕ} {new : List ℕ} {end : ℕ} → Laying f whole c stop from old new end → c < stop → from + length whole ≤ length old → end + length (written (f c)) ≤ length old
+  laying_room {c} {stop} inv l r =
+      let all : length inv.done + length (written_all f c (stop - c)) ≡ length whole = sym (length-append inv.done _) ∙ ap length inv.is in
+      let part : length (written_all f c (stop - c)) ≡ length (written (f c)) + length (written_all f (c + 1) (stop - (c + 1))) = ap length (all_more f c stop l) ∙ length-append (written (f c)) _ in
+      omega (arith, inv.laid.long)
 
-pub items_step : {f : ℕ → Value} {first n j from : ℕ} {old mid : List ℕ} {end : ℕ} → Items f first n j from old mid end → j < n → from ≤ length old → {new : List ℕ} {last : ℕ} → LaidAt end (written (f (first + j))) mid new last → Items f first n (j + 1) from old new last
-items_step {f} {first} {n} {j} {from} {old} {mid} {end} inv l r {new} {last} x =
-    record { done = inv.done ++ written (f (first + j)); laid = lay_more inv.laid r x; is = append_assoc inv.done (written (f (first + j))) (written_items (items_left f first n (j + 1))) ∙ ap (λ t. inv.done ++ t) (sym (ap written_items (items_more f first n j l))) ∙ inv.is }
+  pub laying_step : {c stop : ℕ} {mid : List ℕ} {end : ℕ} → Laying f whole c stop from old mid end → c < stop → from ≤ length old → {new : List ℕ} {last : ℕ} → LaidAt end (written (f c)) mid new last → Laying f whole (c + 1) stop from old new last
+  laying_step {c} {stop} {mid} {end} inv l r {new} {last} x =
+      record { done = inv.done ++ written (f c); laid = lay_more inv.laid r x; is = append_assoc inv.done (written (f c)) (written_all f (c + 1) (stop - (c + 1))) ∙ ap (λ t. inv.done ++ t) (sym (all_more f c stop l)) ∙ inv.is }
 
-pub items_end : {f : ℕ → Value} {first n j from : ℕ} {old new : List ℕ} {end : ℕ} → Items f first n j from old new end → n ≤ j → LaidAt from (written_items (items_from f first n)) old new end
-items_end {f} {first} {n} {j} inv l =
-    lay_as inv.laid _ (sym inv.is ∙ ap (λ t. inv.done ++ written_items t) (items_all f first n j l) ∙ append-nil inv.done)
-
-pub record Entries (key : ℕ → List ℕ) (f : ℕ → Value) (first n j from : ℕ) (old new : List ℕ) (end : ℕ) : Type 0 where
-  pub done : List ℕ
-  pub laid : LaidAt from done old new end
-  pub is : done ++ written_entries (entries_left key f first n j) ≡ written_entries (entries_from key f first n)
-
-pub entries_start : (key : ℕ → List ℕ) (f : ℕ → Value) (first n from : ℕ) (old : List ℕ) → Entries key f first n 0 from old old from
-entries_start key f first n from old = record { done = []; laid = lay_none from old; is = ap written_entries (entries_none key f first n) }
-
-pub entries_room : {key : ℕ → List ℕ} {f : ℕ → Value} {first n j from : ℕ} {old new : List ℕ} {end : ℕ} → Entries key f first n j from old new end → j < n → from + length (written_entries (entries_from key f first n)) ≤ length old → end + (length (key (first + 2 * j)) + length (written (f (first + 2 * j + 1)))) ≤ length old
-entries_room {key} {f} {first} {n} {j} {from} {old} {new} {end} inv l r =
-    let k = key (first + 2 * j) in
-    let v = written (f (first + 2 * j + 1)) in
-    let t = written_entries (entries_left key f first n (j + 1)) in
-    let whole : length inv.done + length (written_entries (entries_left key f first n j)) ≡ length (written_entries (entries_from key f first n)) = sym (length-append inv.done _) ∙ ap length inv.is in
-    let part : length (written_entries (entries_left key f first n j)) ≡ length k + (length v + length t) = ap (λ x. length (written_entries x)) (entries_more key f first n j l) ∙ length-append k (v ++ t) ∙ ap (λ x. length k + x) (length-append v t) in
-    omega (arith, inv.laid.long)
-
-pub entries_step : {key : ℕ → List ℕ} {f : ℕ → Value} {first n j from : ℕ} {old mid : List ℕ} {end : ℕ} → Entries key f first n j from old mid end → j < n → from ≤ length old → (k : List ℕ) → k ≡ key (first + 2 * j) → {next new : List ℕ} {behind last : ℕ} → LaidAt end k mid next behind → end ≤ length mid → LaidAt behind (written (f (first + 2 * j + 1))) next new last → Entries key f first n (j + 1) from old new last
-entries_step {key} {f} {first} {n} {j} {from} {old} {mid} {end} inv l r k ek {next} {new} {behind} {last} x m y =
-    let v = written (f (first + 2 * j + 1)) in
-    let t = written_entries (entries_left key f first n (j + 1)) in
-    record { done = inv.done ++ (k ++ v); laid = lay_more inv.laid r (lay_more x m y); is = append_assoc inv.done (k ++ v) t ∙ ap (λ s. inv.done ++ s) (append_assoc k v t ∙ ap (λ s. s ++ (v ++ t)) ek ∙ sym (ap written_entries (entries_more key f first n j l))) ∙ inv.is }
-
-pub entries_end : {key : ℕ → List ℕ} {f : ℕ → Value} {first n j from : ℕ} {old new : List ℕ} {end : ℕ} → Entries key f first n j from old new end → n ≤ j → LaidAt from (written_entries (entries_from key f first n)) old new end
-entries_end {key} {f} {first} {n} {j} inv l =
-    lay_as inv.laid _ (sym inv.is ∙ ap (λ t. inv.done ++ written_entries t) (entries_all key f first n j l) ∙ append-nil inv.done)
+  pub laying_end : {c stop : ℕ} {new : List ℕ} {end : ℕ} → Laying f whole c stop from old new end → stop ≤ c → LaidAt from whole old new end
+  laying_end {c} {stop} inv l = lay_as inv.laid whole (sym inv.is ∙ ap (λ t. inv.done ++ t) (all_done f c stop l) ∙ append-nil inv.done)

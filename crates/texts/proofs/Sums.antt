@@ -1,11 +1,10 @@
 -- How much of a room is left after the parts of a text.
-use Rattle.std.proofs.Common.{◌≡◌, ℕ, ◌+◌, ◌-◌, ◌*◌, ◌<◌, ◌≤◌, leb, List, ◌++◌, length, Some, None, Option, sym, ap, ◌∙◌, ⊎_elim, arith}
+use Rattle.std.proofs.Common.{◌≡◌, ℕ, ◌+◌, ◌-◌, ◌<◌, ◌≤◌, leb, List, ◌++◌, length, Some, None, Option, sym, ap, ◌∙◌, ⊎_elim, arith}
 use Rattle.std.proofs.lemmas.List.{length-append}
 use Rattle.std.proofs.lemmas.Bool.{le-leb, lt-leb, cond-true, cond-false, cases_Bool, leb-true, leb-false}
-use Rattle.values.specs.Value.{Value, written, written_items, written_entries}
-use Rattle.values.specs.Meaning.{items_from, entries_from}
+use Rattle.values.specs.Value.{Value, written}
 use Rattle.texts.specs.Written.{leaves, if_room}
-use Rattle.values.proofs.Rests.{items_left, entries_left, items_none, items_all, items_more, entries_none, entries_all, entries_more}
+use Rattle.texts.proofs.LeafTexts.{written_all, all_more, all_done}
 
 some_none : {P : Type 0} (n : ℕ) → Some n ≡ None → P
 some_none n e = let z : ◌≡◌ {A = ℕ} 0 1 = cc in absurd (omega arith)
@@ -48,62 +47,33 @@ room_none room n e =
     ⊎_elim (λ t. some_none n (sym (e ∙ cond-true (leb n room) (Some n) None t))) (λ f. leb-false n room f) (cases_Bool (leb n room))
 
 -- what is used, with what is still to come, is the whole
-pub record Items (f : ℕ → Value) (first n room j left : ℕ) : Type 0 where
+pub record Left (f : ℕ → Value) (whole : List ℕ) (room c stop left : ℕ) : Type 0 where
   pub used : ℕ
   pub rest : left + used ≡ room
-  pub is : used + length (written_items (items_left f first n j)) ≡ length (written_items (items_from f first n))
+  pub is : used + length (written_all f c (stop - c)) ≡ length whole
 
-pub items_start : (f : ℕ → Value) (first n room : ℕ) → Items f first n room 0 room
-items_start f first n room = record { used = 0; rest = omega arith; is = omega (arith, ap (λ x. length (written_items x)) (items_none f first n)) }
+-- the record's own text alone has no room
+pub left_short : (f : ℕ → Value) (whole : List ℕ) (room : ℕ) (own : List ℕ) (first stop n : ℕ) → whole ≡ own ++ written_all f first (stop - first) → n ≡ length own → None ≡ leaves room n → None ≡ leaves room (length whole)
+left_short f whole room own first stop n e en s =
+    none_left _ _ (omega (arith, left_none room n s, ap length e, length-append own (written_all f first (stop - first))))
 
--- what is to come begins with the part
-items_part : (f : ℕ → Value) (first n j : ℕ) → j < n → length (written_items (items_left f first n j)) ≡ length (written (f (first + j))) + length (written_items (items_left f first n (j + 1)))
-items_part f first n j l =
-    ap (λ x. length (written_items x)) (items_more f first n j l) ∙ length-append (written (f (first + j))) (written_items (items_left f first n (j + 1)))
+part : (f : ℕ → Value) (c stop : ℕ) → c < stop → length (written_all f c (stop - c)) ≡ length (written (f c)) + length (written_all f (c + 1) (stop - (c + 1)))
+part f c stop l = ap length (all_more f c stop l) ∙ length-append (written (f c)) _
 
-pub items_step : {f : ℕ → Value} {first n room j left : ℕ} → Items f first n room j left → j < n → (rest : ℕ) → Some rest ≡ leaves left (length (written (f (first + j)))) → Items f first n room (j + 1) rest
-items_step {f} {first} {n} {room} {j} {left} inv l rest e =
-    let p = left_some left (length (written (f (first + j)))) rest e in
-    record { used = inv.used + length (written (f (first + j))); rest = omega (arith, inv.rest, p.0, p.1); is = omega (arith, inv.is, items_part f first n j l) }
+module _ {f : ℕ → Value} {whole : List ℕ} {room : ℕ} where
+  pub left_start : (own : List ℕ) (first stop left n : ℕ) → whole ≡ own ++ written_all f first (stop - first) → n ≡ length own → Some left ≡ leaves room n → Left f whole room first stop left
+  left_start own first stop left n e en s =
+      let p = left_some room n left s in
+      record { used = n; rest = omega (arith, p.0, p.1); is = ap (λ k. k + length (written_all f first (stop - first))) en ∙ sym (length-append own _) ∙ sym (ap length e) }
 
-pub items_stop : {f : ℕ → Value} {first n room j left : ℕ} → Items f first n room j left → j < n → None ≡ leaves left (length (written (f (first + j)))) → None ≡ leaves room (length (written_items (items_from f first n)))
-items_stop {f} {first} {n} {room} {j} {left} inv l e =
-    none_left _ _ (omega (arith, inv.rest, inv.is, items_part f first n j l, left_none left (length (written (f (first + j)))) e))
+  pub left_step : {c stop left : ℕ} → Left f whole room c stop left → c < stop → (next : ℕ) → Some next ≡ leaves left (length (written (f c))) → Left f whole room (c + 1) stop next
+  left_step {c} {stop} {left} inv l next s =
+      let p = left_some left _ next s in
+      record { used = inv.used + length (written (f c)); rest = omega (arith, inv.rest, p.0, p.1); is = omega (arith, inv.is, part f c stop l) }
 
-pub items_end : {f : ℕ → Value} {first n room j left : ℕ} → Items f first n room j left → n ≤ j → Some left ≡ leaves room (length (written_items (items_from f first n)))
-items_end {f} {first} {n} {room} {j} {left} inv l =
-    some_left _ _ _ (omega (arith, inv.rest, inv.is, ap (λ x. length (written_items x)) (items_all f first n j l)))
+  pub left_stop : {c stop left : ℕ} → Left f whole room c stop left → c < stop → None ≡ leaves left (length (written (f c))) → None ≡ leaves room (length whole)
+  left_stop {c} {stop} {left} inv l s =
+      none_left _ _ (omega (arith, inv.rest, inv.is, part f c stop l, left_none left _ s))
 
-pub record Entries (key : ℕ → List ℕ) (f : ℕ → Value) (first n room j left : ℕ) : Type 0 where
-  pub used : ℕ
-  pub rest : left + used ≡ room
-  pub is : used + length (written_entries (entries_left key f first n j)) ≡ length (written_entries (entries_from key f first n))
-
-pub entries_start : (key : ℕ → List ℕ) (f : ℕ → Value) (first n room : ℕ) → Entries key f first n room 0 room
-entries_start key f first n room = record { used = 0; rest = omega arith; is = omega (arith, ap (λ x. length (written_entries x)) (entries_none key f first n)) }
-
-entries_part : (key : ℕ → List ℕ) (f : ℕ → Value) (first n j : ℕ) → j < n → length (written_entries (entries_left key f first n j)) ≡ length (key (first + 2 * j)) + (length (written (f (first + 2 * j + 1))) + length (written_entries (entries_left key f first n (j + 1))))
-entries_part key f first n j l =
-    let k = key (first + 2 * j) in
-    let v = written (f (first + 2 * j + 1)) in
-    let r = written_entries (entries_left key f first n (j + 1)) in
-    ap (λ x. length (written_entries x)) (entries_more key f first n j l) ∙ length-append k (v ++ r) ∙ ap (λ x. length k + x) (length-append v r)
-
-pub entries_step : {key : ℕ → List ℕ} {f : ℕ → Value} {first n room j left : ℕ} → Entries key f first n room j left → j < n → (t : List ℕ) → t ≡ key (first + 2 * j) → (behind rest : ℕ) → Some behind ≡ leaves left (length t) → Some rest ≡ leaves behind (length (written (f (first + 2 * j + 1)))) → Entries key f first n room (j + 1) rest
-entries_step {key} {f} {first} {n} {room} {j} {left} inv l t et behind rest a b =
-    let p = left_some left (length t) behind a in
-    let q = left_some behind (length (written (f (first + 2 * j + 1)))) rest b in
-    record { used = inv.used + (length (key (first + 2 * j)) + length (written (f (first + 2 * j + 1)))); rest = omega (arith, inv.rest, p.0, p.1, q.0, q.1, ap length et); is = omega (arith, inv.is, entries_part key f first n j l) }
-
-pub entries_stop_key : {key : ℕ → List ℕ} {f : ℕ → Value} {first n room j left : ℕ} → Entries key f first n room j left → j < n → (t : List ℕ) → t ≡ key (first + 2 * j) → None ≡ leaves left (length t) → None ≡ leaves room (length (written_entries (entries_from key f first n)))
-entries_stop_key {key} {f} {first} {n} {room} {j} {left} inv l t et a =
-    none_left _ _ (omega (arith, inv.rest, inv.is, entries_part key f first n j l, left_none left (length t) a, ap length et))
-
-pub entries_stop : {key : ℕ → List ℕ} {f : ℕ → Value} {first n room j left : ℕ} → Entries key f first n room j left → j < n → (t : List ℕ) → t ≡ key (first + 2 * j) → (behind : ℕ) → Some behind ≡ leaves left (length t) → None ≡ leaves behind (length (written (f (first + 2 * j + 1)))) → None ≡ leaves room (length (written_entries (entries_from key f first n)))
-entries_stop {key} {f} {first} {n} {room} {j} {left} inv l t et behind a b =
-    let p = left_some left (length t) behind a in
-    none_left _ _ (omega (arith, inv.rest, inv.is, entries_part key f first n j l, p.0, p.1, left_none behind (length (written (f (first + 2 * j + 1)))) b, ap length et))
-
-pub entries_end : {key : ℕ → List ℕ} {f : ℕ → Value} {first n room j left : ℕ} → Entries key f first n room j left → n ≤ j → Some left ≡ leaves room (length (written_entries (entries_from key f first n)))
-entries_end {key} {f} {first} {n} {room} {j} {left} inv l =
-    some_left _ _ _ (omega (arith, inv.rest, inv.is, ap (λ x. length (written_entries x)) (entries_all key f first n j l)))
+  pub left_end : {c stop left : ℕ} → Left f whole room c stop left → stop ≤ c → Some left ≡ leaves room (length whole)
+  left_end {c} {stop} {left} inv l = some_left _ _ _ (omega (arith, inv.rest, inv.is, ap length (all_done f c stop l)))

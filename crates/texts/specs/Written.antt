@@ -37,15 +37,15 @@ abbrev pub leaf_text : List ℕ → Record → List ℕ
 leaf_text tx Nil = []
 leaf_text tx (Boolean b) = cond b (codes "true") (codes "false")
 leaf_text tx (Whole z) = whole_text z
-leaf_text tx (Text p n) = cut tx p n
-leaf_text tx (Array f n) = []
-leaf_text tx (Object f n) = []
+leaf_text tx (Text s) = cut tx s.first s.count
+leaf_text tx (Array s) = []
+leaf_text tx (Object s) = []
 
 -- the same where that is no number
 abbrev pub plain_text : List ℕ → Record → List ℕ
 plain_text tx Nil = []
 plain_text tx (Boolean b) = cond b (codes "true") (codes "false")
 plain_text tx (Whole z) = []
-plain_text tx (Text p n) = cut tx p n
-plain_text tx (Array f n) = []
-plain_text tx (Object f n) = []
+plain_text tx (Text s) = cut tx s.first s.count
+plain_text tx (Array s) = []
+plain_text tx (Object s) = []

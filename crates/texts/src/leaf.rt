@@ -11,11 +11,9 @@ use tray::trays::Tray;
 fn whole_len(n: i64) -> usize
     ensures { result ≡ length (whole_text n) }
 {
+    // Fixed memory: a length is taken while a ticket is rendered, which never allocates.
     let mut scratch = [0u8; 20];
-    match write_whole(n, &mut scratch) {
-        Some(len) => len,
-        None => 20,
-    }
+    write_whole(n, &mut scratch).unwrap_or(20)
 }
 
 // The text of a record that is no number and holds no other.
@@ -47,7 +45,7 @@ pub(crate) fn write_part(part: &[u8], out: &mut [u8]) -> Option<usize>
     if n > out.len() {
         return None;
     }
-    out[0..n].copy_from_slice(part);
+    out[..n].copy_from_slice(part);
     Some(n)
 }
 

@@ -1,4 +1,4 @@
-// The text of a value of a tray: how long it is, and the text laid into a caller's buffer.
+//! The text of a value of a tray: how long it is, and the text laid into a caller's buffer.
 
 #![tactic(auto)]
 

@@ -43,7 +43,7 @@ entries_listed key f i (suc n) t =
     cc
 
 -- a key's record is a text
-key_text_lem : (rs : List Record) (tx : List ℕ) → Behind rs → (c : ℕ) → is_text (at rs c) ≡ true → value_at rs tx c ≡ text (key_at rs tx c)
+pub key_text_lem : (rs : List Record) (tx : List ℕ) → Behind rs → (c : ℕ) → is_text (at rs c) ≡ true → value_at rs tx c ≡ text (key_at rs tx c)
 key_text_lem rs tx b c t = stands rs tx c (at rs c) b refl ∙ go (at rs c) t
   where
     go : (r : Record) → is_text r ≡ true → shape tx (key_at rs tx) (value_at rs tx) r ≡ text (key_of tx r)

@@ -1,5 +1,5 @@
 -- What a record stands for, from what the records that it holds stand for.
-use Rattle.std.proofs.Common.{◌≡◌, ℕ, zero, suc, ◌+◌, ◌-◌, ◌*◌, ◌<◌, ◌≤◌, Bool, false, List, length, sym, refl, ap, ◌∙◌, ap₂, ⊎_elim, arith}
+use Rattle.std.proofs.Common.{◌≡◌, ℕ, zero, suc, ◌+◌, ◌-◌, ◌*◌, ◌<◌, ◌≤◌, ℤ, Bool, false, List, length, sym, refl, ap, ◌∙◌, ap₂, ⊎_elim, arith}
 use Rattle.std.proofs.lemmas.List.{get_or_past}
 use Rattle.std.proofs.lemmas.Bool.{cases_lt}
 use Rattle.tray.specs.declared.records.Span.{Span}
@@ -7,7 +7,7 @@ use Rattle.tray.specs.declared.records.Record.{Record}
 use Rattle.tray.specs.declared.records.Record.TheVariants.{Nil, Boolean, Whole, Text, Array, Object}
 use Rattle.tray.specs.Parts.{key_of}
 use Rattle.tray.specs.Sound.{at, first_of, width_of, Behind, Inside}
-use Rattle.values.specs.Value.{Value, nil, array, object, Items, Entries, equal, is_text, is_array, is_object}
+use Rattle.values.specs.Value.{Value, nil, array, object, Items, Entries, equal, is_nil, is_boolean, is_whole, is_text, is_array, is_object}
 use Rattle.values.specs.Meaning.{items_from, entries_from, shape, key_at, value_to, value_at, Below}
 
 items_same : (f g : ℕ → Value) (i n : ℕ) → ((c : ℕ) → i ≤ c → c < i + n → f c ≡ g c) → items_from f i n ≡ items_from g i n
@@ -71,6 +71,39 @@ object_lies rs i s b h e = lies rs i (Object s) b h e (λ z. let o : ◌≡◌ {
 pub both : (rs : List Record) (tx : List ℕ) (a b : ℕ) (r s : Record) → Behind rs → r ≡ at rs a → s ≡ at rs b → equal (value_at rs tx a) (value_at rs tx b) ≡ equal (shape tx (key_at rs tx) (value_at rs tx) r) (shape tx (key_at rs tx) (value_at rs tx) s)
 both rs tx a b r s h er es = ap₂ equal (stands rs tx a r h er) (stands rs tx b s h es)
 
+-- a record of another kind
+pub not_nil : (tx : List ℕ) (key : ℕ → List ℕ) (f : ℕ → Value) (s : Record) → (s ≡ Nil → ⊥) → false ≡ is_nil (shape tx key f s)
+not_nil tx key f Nil h = absurd (h refl)
+not_nil tx key f (Boolean b) h = refl
+not_nil tx key f (Whole z) h = refl
+not_nil tx key f (Text i) h = refl
+not_nil tx key f (Array i) h = refl
+not_nil tx key f (Object i) h = refl
+
+pub not_boolean : (tx : List ℕ) (key : ℕ → List ℕ) (f : ℕ → Value) (c : Bool) (s : Record) → ((b : Bool) → s ≡ Boolean b → ⊥) → false ≡ is_boolean c (shape tx key f s)
+not_boolean tx key f c Nil h = refl
+not_boolean tx key f c (Boolean b) h = absurd (h b refl)
+not_boolean tx key f c (Whole z) h = refl
+not_boolean tx key f c (Text i) h = refl
+not_boolean tx key f c (Array i) h = refl
+not_boolean tx key f c (Object i) h = refl
+
+pub not_whole : (tx : List ℕ) (key : ℕ → List ℕ) (f : ℕ → Value) (y : ℤ) (s : Record) → ((z : ℤ) → s ≡ Whole z → ⊥) → false ≡ is_whole y (shape tx key f s)
+not_whole tx key f y Nil h = refl
+not_whole tx key f y (Boolean b) h = refl
+not_whole tx key f y (Whole z) h = absurd (h z refl)
+not_whole tx key f y (Text i) h = refl
+not_whole tx key f y (Array i) h = refl
+not_whole tx key f y (Object i) h = refl
+
+pub not_text : (tx : List ℕ) (key : ℕ → List ℕ) (f : ℕ → Value) (t : List ℕ) (s : Record) → ((i : Span) → s ≡ Text i → ⊥) → false ≡ is_text t (shape tx key f s)
+not_text tx key f t Nil h = refl
+not_text tx key f t (Boolean b) h = refl
+not_text tx key f t (Whole z) h = refl
+not_text tx key f t (Text i) h = absurd (h i refl)
+not_text tx key f t (Array i) h = refl
+not_text tx key f t (Object i) h = refl
+
 pub not_array : (tx : List ℕ) (key : ℕ → List ℕ) (f : ℕ → Value) (p : Items → Bool) (s : Record) → ((i : Span) → s ≡ Array i → ⊥) → false ≡ is_array p (shape tx key f s)
 not_array tx key f p Nil h = refl
 not_array tx key f p (Boolean b) h = refl
@@ -86,8 +119,3 @@ not_object tx key f p (Whole z) h = refl
 not_object tx key f p (Text i) h = refl
 not_object tx key f p (Array i) h = refl
 not_object tx key f p (Object i) h = absurd (h i refl)
-
--- a text beside another record
-pub text_both : (rs : List Record) (tx : List ℕ) (a b : ℕ) (p : Span) → Behind rs → Text p ≡ at rs a → equal (value_at rs tx a) (value_at rs tx b) ≡ is_text (key_at rs tx a) (shape tx (key_at rs tx) (value_at rs tx) (at rs b))
-text_both rs tx a b p h e =
-    both rs tx a b (Text p) (at rs b) h e refl ∙ ap (λ k. is_text k (shape tx (key_at rs tx) (value_at rs tx) (at rs b))) (ap (key_of tx) e)

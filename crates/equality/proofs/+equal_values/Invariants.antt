@@ -14,7 +14,7 @@ abbrev pub decreases-agrees : goal.decreases-agrees
 decreases-agrees l = 2 * (count_of l.tray.now - l.holder) - 1
 
 abbrev pub invariant-equal_items-loop-j : goal.invariant-equal_items-loop-j
-invariant-equal_items-loop-j l = Pairs (value_of l.tray) l.f l.n l.g l.m l.j
+invariant-equal_items-loop-j l = Pairs (value_of l.tray) l.s.first l.s.count l.t.first l.t.count l.j
 
 abbrev pub invariant-agrees-loop-j : goal.invariant-agrees-loop-j
-invariant-agrees-loop-j l = Agrees (text_at l.tray) (value_of l.tray) l.f l.n (entries_from (text_at l.tray) (value_of l.tray) l.g l.m) l.j
+invariant-agrees-loop-j l = Agrees (text_at l.tray) (value_of l.tray) l.s.first l.s.count (entries_from (text_at l.tray) (value_of l.tray) l.t.first l.t.count) l.j

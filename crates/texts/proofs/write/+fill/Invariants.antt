@@ -1,0 +1,12 @@
+use Rattle.std.proofs.Common.{◌-◌}
+use Rattle.values.specs.Value.{written}
+use Rattle.values.specs.Meaning.{value_of, count_of}
+use Rattle.texts.proofs.Fills.{Laying}
+use Rattle.texts.proofs.write.+fill.Given as goal
+
+-- the distance to the last record falls
+abbrev pub decreases-fill : goal.decreases-fill
+decreases-fill l = count_of l.tray.now - l.i
+
+abbrev pub invariant-loop-c : goal.invariant-loop-c
+invariant-loop-c l = Laying (value_of l.tray) (written (value_of l.tray l.i)) l.c l.c-end l.from l.fn.out l.out l.end
