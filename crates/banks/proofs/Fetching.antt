@@ -1,5 +1,7 @@
 -- Whether a record of a tray is a phrase.
-use Rattle.std.proofs.Common.{◌≡◌, ℕ, ◌<◌, ◌≤◌, leb, List, length, Err, vec_items, sym, refl, ap, ◌∙◌}
+use Rattle.std.proofs.Common.{◌≡◌, ℕ, ◌<◌, ◌≤◌, leb, List, length, Bor, Option, Result, Some, None, Err, vec_items, sym, refl, ap, ◌∙◌}
+use Rattle.std.specs.Option.{MatchOption, ok_or}
+use Rattle.std.specs.Result.{MatchResult}
 use Rattle.std.proofs.lemmas.Bool.{cond-true, cond-false, le-leb, lt-leb}
 use Rattle.tray.specs.declared.records.Record.{Record}
 use Rattle.tray.specs.declared.records.Record.TheVariants.{Nil, Boolean, Whole, Text, Array, Object}
@@ -9,8 +11,10 @@ use Rattle.tray.specs.Parts.{key_of}
 use Rattle.values.specs.Value.{Value, text}
 use Rattle.values.specs.Meaning.{shape, key_at, value_at, value_of}
 use Rattle.values.proofs.Unfolds.{stands}
+use Rattle.banks.specs.declared.causes.Cause.{Cause}
 use Rattle.banks.specs.declared.causes.Cause.TheVariants.{NoPhrase}
 use Rattle.banks.specs.Fetched.{Fetched}
+use Rattle.banks.specs.Meaning.{Given}
 use Rattle.banks.specs.Phrases.{phrase_of}
 
 shape_no_phrase : (tx : List ℕ) (key : ℕ → List ℕ) (f : ℕ → Value) (r : Record) → ((p n : ℕ) → r ≡ Text p n → ⊥) → phrase_of (shape tx key f r) ≡ Err NoPhrase
@@ -37,3 +41,8 @@ a_phrase t i p n bytes e h l = record { is = text_is t i p n bytes e h ∙ cond-
 
 pub too_long : (t : Tray) (i p n : ℕ) (bytes : List ℕ) → Text p n ≡ at (vec_items t.records) i → bytes ≡ key_of t.text.now (at (vec_items t.records) i) → 256 < length bytes → phrase_of (value_of t i) ≡ Err NoPhrase
 too_long t i p n bytes e h l = text_is t i p n bytes e h ∙ cond-false (leb (length bytes) 256) _ _ (lt-leb (length bytes) 256 l)
+
+-- what is given is what record i holds, and o is the phrase that is there, if it is one
+pub handed : (given held : Result Given Cause) (o : Option (Bor (List ℕ))) (r : Result (Bor (List ℕ)) Cause) → given ≡ held → r ≡ ok_or o NoPhrase → MatchOption o (held ≡ Err NoPhrase) (λ t. Fetched held t.now) → MatchResult r (λ t. Fetched given t.now) (λ c. given ≡ Err c)
+handed given held None r e q h = rw q (e ∙ h)
+handed given held (Some t) r e q h = rw q (record { is = e ∙ h.is; short = h.short })

@@ -1,1 +1,2 @@
 mod Fetching
+mod Names

@@ -1,5 +1,6 @@
-ghost use Rattle.std.specs.Prelude.{◌≡◌, Err, MatchOption, MatchResult};
+ghost use Rattle.std.specs.Prelude.{◌≡◌, Err, codes, MatchOption, MatchResult};
 ghost use Rattle.std.specs.Option.{option_map};
+ghost use Rattle.tray.specs.Parts.{same_text};
 ghost use Rattle.values.specs.Meaning.{value_of};
 ghost use Rattle.banks.specs.declared.causes.Cause.TheVariants.{NoPhrase};
 ghost use Rattle.banks.specs.Fetched.{Fetched};
@@ -11,7 +12,6 @@ use crate::answers::{Answer, put};
 use crate::bank::Bank;
 use crate::causes::Cause;
 use crate::operands::Operand;
-use tray::parts::same_text;
 use tray::records::Record;
 use tray::trays::Tray;
 use values::finds::find;
@@ -46,19 +46,22 @@ fn phrase_at<'a>(tray: &Tray<'a>, i: usize) -> Option<&'a [u8]>
 fn fetch<'a>(tray: &Tray<'a>, input: Operand, argument: Option<Operand>) -> Result<&'a [u8], Cause>
     ensures { MatchResult result (λ t. Fetched (phrase (value_of tray.now 0) (datum input.entry) (option_map datum argument.entry)) t.now) (λ c. phrase (value_of tray.now 0) (datum input.entry) (option_map datum argument.entry) ≡ Err c) }
 {
-    if let Some(_) = argument {
+    if argument.is_some() {
         return Err(Cause::WrongOperand);
     }
     let Operand::Text(key) = input else {
         return Err(Cause::WrongOperand);
     };
-    let Some(i) = find(tray, 0, key.bytes()) else {
-        return Err(Cause::NoPhrase);
-    };
-    match phrase_at(tray, i) {
-        Some(text) => Ok(text),
-        None => Err(Cause::NoPhrase),
-    }
+    let i = find(tray, 0, key.bytes()).ok_or(Cause::NoPhrase)?;
+    phrase_at(tray, i).ok_or(Cause::NoPhrase)
+}
+
+// Whether the bank knows the name.
+#[tactic(auto, using(crate::proofs::Names::same_reads, std::proofs::lemmas::Bool::Decides::nat_tests))]
+fn is_known(name: &[u8]) -> bool
+    ensures { result ≡ same_text name.now (codes "phrase") }
+{
+    matches!(name, b"phrase")
 }
 
 impl<'a> Bank for Phrases<'a> {
@@ -67,7 +70,7 @@ impl<'a> Bank for Phrases<'a> {
     ghost lawful = { λ b. phrases_lawful (value_of b.tray 0) };
 
     fn knows(&mut self, name: &[u8]) -> bool {
-        same_text(name, b"phrase")
+        is_known(name)
     }
 
     fn apply(
@@ -77,15 +80,11 @@ impl<'a> Bank for Phrases<'a> {
         argument: Option<Operand>,
         answer: &mut [u8; 256],
     ) -> Result<Answer, Cause> {
-        if !same_text(name, b"phrase") {
+        if !is_known(name) {
             return Err(Cause::UnknownName);
         }
-        match fetch(&self.tray, input, argument) {
-            Ok(text) => {
-                put(answer, text);
-                Ok(Answer::Text(text.len()))
-            }
-            Err(c) => Err(c),
-        }
+        let text = fetch(&self.tray, input, argument)?;
+        put(answer, text);
+        Ok(Answer::Text(text.len()))
     }
 }

@@ -11,13 +11,12 @@ use crate::bank::Bank;
 use crate::causes::Cause;
 use crate::operands::Operand;
 use numerals::read_whole;
-use tray::parts::same_text;
 
 /// The bank of sums: `plus`, `minus` and `times` on whole numbers.
-#[derive(Clone, Copy)]
+#[derive(Clone, Copy, Debug, PartialEq, Eq)]
 pub struct Sums;
 
-#[derive(Clone, Copy)]
+#[derive(Clone, Copy, Debug, PartialEq, Eq)]
 enum Operation {
     Plus,
     Minus,
@@ -25,17 +24,15 @@ enum Operation {
 }
 
 // The operation of that name.
+#[tactic(auto, using(crate::proofs::Names::same_reads, std::proofs::lemmas::Bool::Decides::nat_tests))]
 fn named(name: &[u8]) -> Option<Operation>
     ensures { option_map rule result ≡ operation_of name.now }
 {
-    if same_text(name, b"plus") {
-        Some(Operation::Plus)
-    } else if same_text(name, b"minus") {
-        Some(Operation::Minus)
-    } else if same_text(name, b"times") {
-        Some(Operation::Times)
-    } else {
-        None
+    match name {
+        b"plus" => Some(Operation::Plus),
+        b"minus" => Some(Operation::Minus),
+        b"times" => Some(Operation::Times),
+        _ => None,
     }
 }
 
@@ -44,19 +41,9 @@ fn whole_in(operand: Operand) -> Option<i64>
     ensures { result ≡ whole_in (datum operand.entry) }
 {
     match operand {
-        Operand::Nil => None,
-        Operand::Boolean(_) => None,
+        Operand::Nil | Operand::Boolean(_) => None,
         Operand::Whole(n) => Some(n),
         Operand::Text(t) => read_whole(t.bytes()),
-    }
-}
-
-fn whole_in_argument(argument: Option<Operand>) -> Option<i64>
-    ensures { result ≡ whole_in_argument (option_map datum argument.entry) }
-{
-    match argument {
-        Some(operand) => whole_in(operand),
-        None => None,
     }
 }
 
@@ -74,16 +61,9 @@ fn work_out(operation: Operation, a: i64, b: i64) -> Option<i64>
 fn calculate(operation: Operation, input: Operand, argument: Option<Operand>) -> Result<i64, Cause>
     ensures { numbered result ≡ calculated (rule operation) (whole_in (datum input.entry)) (whole_in_argument (option_map datum argument.entry)) }
 {
-    let Some(a) = whole_in(input) else {
-        return Err(Cause::WrongOperand);
-    };
-    let Some(b) = whole_in_argument(argument) else {
-        return Err(Cause::WrongOperand);
-    };
-    match work_out(operation, a, b) {
-        Some(n) => Ok(n),
-        None => Err(Cause::Overflow),
-    }
+    let a = whole_in(input).ok_or(Cause::WrongOperand)?;
+    let b = argument.and_then(whole_in).ok_or(Cause::WrongOperand)?;
+    work_out(operation, a, b).ok_or(Cause::Overflow)
 }
 
 impl Bank for Sums {
@@ -102,15 +82,9 @@ impl Bank for Sums {
         argument: Option<Operand>,
         answer: &mut [u8; 256],
     ) -> Result<Answer, Cause> {
-        let Some(operation) = named(name) else {
-            return Err(Cause::UnknownName);
-        };
-        match calculate(operation, input, argument) {
-            Ok(n) => {
-                clear(answer);
-                Ok(Answer::Whole(n))
-            }
-            Err(c) => Err(c),
-        }
+        let operation = named(name).ok_or(Cause::UnknownName)?;
+        let n = calculate(operation, input, argument)?;
+        clear(answer);
+        Ok(Answer::Whole(n))
     }
 }

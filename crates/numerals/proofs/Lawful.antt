@@ -9,14 +9,14 @@ use Rattle.numerals.specs.Decimal.{is_digit, are_digits, value_after, value_of, 
 use Rattle.numerals.specs.Laws.{Fits64, Digits, Spells, plain, plus, minus, ReadsWhatIsSpelled, ReadsBack, AtMost20Bytes, NoLeadingZero}
 use Rattle.numerals.proofs.Texts.{text_is, text_some, length_text_le}
 
-own : IsNumeralModel (λ ds. are_digits ds ≡ true) value_of
+pub own : IsNumeralModel (λ ds. are_digits ds ≡ true) value_of
 own = numerals_by_fold _ (search rules) value_after (search rules)
 
 -- 64 bits
-fits_from : (z : ℤ) → Fits64 z → fits z ≡ true
+pub fits_from : (z : ℤ) → Fits64 z → fits z ≡ true
 fits_from z f = grind (arith, ints, f.least, f.most)
 
-fits_to : (z : ℤ) → fits z ≡ true → Fits64 z
+pub fits_to : (z : ℤ) → fits z ≡ true → Fits64 z
 fits_to z e = record { least = grind (arith, ints); most = grind (arith, ints) }
 
 mag_fits : (n : ℕ) → Fits64 (pos n) → n < 2 ^ 63
@@ -39,11 +39,11 @@ text_spells (pos n) f =
 text_spells (negsuc n) f =
     subst (λ (v : ℕ). Spells (45 ∷ natural_text (suc n)) (neg_ℤ (pos v))) (text_value (suc n) (omega (arith, neg_fits n f))) (minus (text_digits (suc n) (omega (arith, neg_fits n f))))
 
-natural_from : (ds : List ℕ) → Digits ds → natural_of ds ≡ Some (value_of ds)
+pub natural_from : (ds : List ℕ) → Digits ds → natural_of ds ≡ Some (value_of ds)
 natural_from [] d = absurd (omega (arith, d.some))
 natural_from (c ∷ cs) d = cond-true (are_digits (c ∷ cs)) (Some (value_of (c ∷ cs))) None d.all
 
-natural_to : (ds : List ℕ) (n : ℕ) → natural_of ds ≡ Some n → Digits ds × (n ≡ value_of ds)
+pub natural_to : (ds : List ℕ) (n : ℕ) → natural_of ds ≡ Some n → Digits ds × (n ≡ value_of ds)
 natural_to [] n e = let z : ◌≡◌ {A = ℕ} 0 1 = cc in absurd (omega arith)
 natural_to (c ∷ cs) n e = go (are_digits (c ∷ cs)) refl e
   where

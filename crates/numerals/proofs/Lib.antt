@@ -1,3 +1,3 @@
 pub mod Texts
-pub mod Readings
 pub mod Lawful
+pub mod Readings

@@ -1,10 +1,9 @@
 -- The whole numbers between two, by place.
-use Rattle.std.proofs.Common.{◌≡◌, ℕ, ◌^◌, ◌<◌, ◌≤◌, min, true, false, ◌⊎◌, ℤ, pos, negsuc, ◌+ℤ◌, ◌-ℤ◌, ◌≤ℤ◌, ◌<ℤ◌, Some, None, refl, ap, ◌∙◌, inl, inr, arith, w64, SFits, to_z, of_z}
-use lib.Signed.{lt_z, mag}
-use mir.Syntax.{w128}
+use Rattle.std.proofs.Common.{◌≡◌, ℕ, ◌<◌, ◌≤◌, min, ◌⊎◌, length, ℤ, pos, negsuc, ◌+ℤ◌, ◌-ℤ◌, ◌≤ℤ◌, ◌<ℤ◌, Some, refl, ap, ◌∙◌, inl, inr, arith}
 use Rattle.std.specs.List.{slice_get}
-use Rattle.std.proofs.lemmas.Int.{ints, to_z-of_z}
-use Rattle.std.proofs.lemmas.Bool.{cases_lt, ltb-true, ltb-false, false≢true}
+use Rattle.std.proofs.lemmas.List.FromFn.{length-map-range_with_len}
+use Rattle.std.proofs.lemmas.Int.{ints}
+use Rattle.std.proofs.lemmas.Bool.{cases_lt}
 use Rattle.rows.specs.Counted.{natural_part, numbers_from, how_many, between, held, Counts}
 use Rattle.rows.proofs.Cuts.{nth_counted, nth_uncounted}
 
@@ -27,35 +26,13 @@ natural_is (negsuc n) h = absurd (omega (arith, ints))
 natural_mono : (y z : ℤ) → pos 0 ≤ℤ y → y <ℤ z → natural_part y < natural_part z
 natural_mono y z h l = let a = natural_is y h in let b = natural_is z (omega (arith, ints)) in omega (arith, ints)
 
--- a difference as the code computes it
-pub widened : (from to d : ℤ) → SFits w64 from → SFits w64 to → mag d < 2 ^ 127 → d ≡ (to_z w64 (of_z w64 to) -ℤ to_z w64 (of_z w64 from)) +ℤ pos 1 → to_z w128 (of_z w128 d) ≡ (to -ℤ from) +ℤ pos 1
-widened from to d f g h e =
-    to_z-of_z w128 d (record { sfits = h }) ∙ e
-    ∙ ap (λ x. (x -ℤ to_z w64 (of_z w64 from)) +ℤ pos 1) (to_z-of_z w64 to g) ∙ ap (λ x. (to -ℤ x) +ℤ pos 1) (to_z-of_z w64 from f)
+pub held_length : (from to : ℤ) → length (held from to) ≡ min (how_many from to) 4096
+held_length from to = length-map-range_with_len (λ k. from +ℤ pos k) 0 (min (how_many from to) 4096)
 
-pub natural_over : (y z : ℤ) (n : ℕ) → y ≡ z → lt_z (pos n) y ≡ true → n < natural_part z
-natural_over (pos m) z n e h = omega (arith, ltb-true n m h, ap natural_part e)
-natural_over (negsuc m) z n e h = absurd (false≢true h)
-
-pub natural_under : (y z : ℤ) (n : ℕ) → y ≡ z → lt_z (pos n) y ≡ false → natural_part z ≤ n
-natural_under (pos m) z n e h = omega (arith, ltb-false n m h, ap natural_part e)
-natural_under (negsuc m) z n e h = omega (arith, ap natural_part e)
-
--- x and y are from and to as the code holds them
-module _ (from to x y : ℤ) (is_x : x ≡ from) (is_y : y ≡ to) where
-  pub count_is : (n : ℕ) → n ≡ min (how_many x y) 4096 → n ≡ min (how_many from to) 4096
-  count_is n e = e ∙ ap (λ z. min (how_many z y) 4096) is_x ∙ ap (λ z. min (how_many from z) 4096) is_y
-
-  pub held_all : how_many from to ≤ 4096 → (x ≡ from) × (y ≡ to) × (held x y ≡ between from to)
-  held_all l =
-      (is_x, is_y, ap (λ z. held z y) is_x ∙ ap (held from) is_y ∙ ap (numbers_from from) (let e : min (how_many from to) 4096 ≡ how_many from to = omega arith in e))
-
-  pub held_at : (n k : ℕ) → n ≡ min (how_many x y) 4096 → k < n → (slice_get (held from to) k ≡ Some (from +ℤ pos k)) × (pos k <ℤ ((to -ℤ from) +ℤ pos 1))
-  held_at n k e l =
-      (nth_counted (λ i. from +ℤ pos i) (min (how_many from to) 4096) k (omega (arith, count_is n e)), natural_lt ((to -ℤ from) +ℤ pos 1) k (omega (arith, count_is n e)))
-
-  pub held_past : (n k : ℕ) → n ≡ min (how_many x y) 4096 → n ≤ k → slice_get (held from to) k ≡ None
-  held_past n k e l = nth_uncounted (λ i. from +ℤ pos i) (min (how_many from to) 4096) k (omega (arith, count_is n e))
+pub held_at : (from to : ℤ) (k : ℕ) → k < length (held from to) → (slice_get (held from to) k ≡ Some (from +ℤ pos k)) × (pos k <ℤ ((to -ℤ from) +ℤ pos 1)) × (k < 4096)
+held_at from to k l =
+    let h : k < min (how_many from to) 4096 = omega (arith, held_length from to) in
+    (nth_counted (λ i. from +ℤ pos i) (min (how_many from to) 4096) k h, natural_lt ((to -ℤ from) +ℤ pos 1) k (omega arith), omega arith)
 
 pub numbers_between : (from to : ℤ) → Counts from to (between from to)
 numbers_between from to =

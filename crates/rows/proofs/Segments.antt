@@ -79,33 +79,25 @@ end_le : (o : ℤ) (l : Option ℤ) (n : ℕ) → end_of o l n ≤ n
 end_le o None n = omega arith
 end_le o (Some m) n = omega arith
 
--- the window's list by places of the row's: a and b are where it begins and ends, and z is the offset as the code holds it
-module _ {X : Type 0} (o : ℤ) (l : Option ℤ) (rev : Bool) (xs : List X) {z : ℤ} {n a b : ℕ} (is-z : z ≡ o) (is-n : n ≡ length xs) (from-a : a ≡ start_of z n) (from-b : b ≡ end_of z l n) where
-  is_a : a ≡ start_of o n
-  is_a = from-a ∙ ap (λ y. start_of y n) is-z
-
-  is_b : b ≡ end_of o l n
-  is_b = from-b ∙ ap (λ y. end_of y l n) is-z
-
+-- the window's list by places of the row's: a and b are where it begins and ends
+module _ {X : Type 0} (o : ℤ) (l : Option ℤ) (rev : Bool) (xs : List X) {a b : ℕ} (is_a : a ≡ start_of o (length xs)) (is_b : b ≡ end_of o l (length xs)) where
   kept_is : kept_from (in_window o l) 0 xs ≡ take (b - a) (drop a xs)
   kept_is =
+      let n = length xs in
       segment (in_window o l) (start_of o n) (end_of o l n) n 0 xs (passes o l n) (omega arith)
-      ∙ ap (λ m. take m (drop (start_of o n - 0) xs)) (let q : end_of o l n - max (start_of o n) 0 ≡ b - a = omega (arith, is_a, is_b) in q)
-      ∙ ap (λ m. take (b - a) (drop m xs)) (let q : start_of o n - 0 ≡ a = omega (arith, is_a) in q)
+      ∙ ap (λ m. take m (drop (start_of o n - 0) xs)) (let q : end_of o l n - max (start_of o n) 0 ≡ b - a = omega arith in q)
+      ∙ ap (λ m. take (b - a) (drop m xs)) (let q : start_of o n - 0 ≡ a = omega arith in q)
 
   part_length : length (take (b - a) (drop a xs)) ≡ b - a
-  part_length = length-take (b - a) (drop a xs) ∙ omega (arith, length-drop a xs, end_le o l n, is_b)
+  part_length = length-take (b - a) (drop a xs) ∙ omega (arith, length-drop a xs, end_le o l (length xs))
 
   length_turned : (r : Bool) (ys : List X) → length (turned r ys) ≡ length ys
   length_turned true ys = length-reverse ys
   length_turned false ys = refl
 
-  window_length : length (windowed o l rev xs) ≡ b - a
+  pub window_length : length (windowed o l rev xs) ≡ b - a
   unfolding windowed
   window_length = length_turned rev (kept_from (in_window o l) 0 xs) ∙ ap length kept_is ∙ part_length
-
-  pub window_count : (m : ℕ) → m ≡ b - a → m ≡ length (windowed o l rev xs)
-  window_count m e = e ∙ sym window_length
 
   pub window_past : (k : ℕ) → b - a ≤ k → slice_get (windowed o l rev xs) k ≡ None
   window_past k h = slice_get_past (windowed o l rev xs) k (omega (arith, window_length))

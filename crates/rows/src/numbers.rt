@@ -1,4 +1,4 @@
-ghost use Rattle.std.specs.Prelude.{◌≡◌, ◌<◌, min, pos, ◌+ℤ◌, ◌-ℤ◌, MatchOption};
+ghost use Rattle.std.specs.Prelude.{◌≡◌, ◌<◌, pos, ◌+ℤ◌, ◌-ℤ◌, MatchOption};
 ghost use Rattle.rows.specs.Counted.{how_many, between, held, Counts};
 
 use crate::place::within;
@@ -7,24 +7,10 @@ use crate::row::Row;
 const MOST: usize = 4096;
 
 /// The row of the whole numbers from `from` to `to`, both counted, in rising order; it holds no more than the first 4,096.
-#[derive(Clone, Copy)]
+#[derive(Clone, Copy, Debug, PartialEq, Eq)]
 pub struct Numbers {
     from: i64,
     to: i64,
-}
-
-// One more than the difference: how many whole numbers there are from `from` to `to`, where it is above 0.
-fn distance(from: i64, to: i64) -> i128
-    ensures { result ≡ (to -ℤ from) +ℤ pos 1 }
-{
-    to as i128 - from as i128 + 1
-}
-
-// How many of the numbers the row holds.
-fn held_count(from: i64, to: i64) -> usize
-    ensures { result ≡ min (how_many from to) 4096 }
-{
-    within(distance(from, to), MOST)
 }
 
 impl Numbers {
@@ -33,12 +19,15 @@ impl Numbers {
         ensures made { MatchOption result (4096 < how_many from to) (λ s. (s.from ≡ from) × (s.to ≡ to) × (held s.from s.to ≡ between from to)) }
         ensures exact { Counts from to (between from to) }
     {
-        let n = distance(from, to);
-        if n > MOST as i128 {
-            None
-        } else {
-            Some(Numbers { from, to })
-        }
+        let numbers = Numbers { from, to };
+        (numbers.distance() <= MOST as i128).then_some(numbers)
+    }
+
+    // One more than the difference: how many whole numbers there are from `from` to `to`, where it is above 0.
+    fn distance(&self) -> i128
+        ensures { result ≡ (self.now.to -ℤ self.now.from) +ℤ pos 1 }
+    {
+        self.to as i128 - self.from as i128 + 1
     }
 }
 
@@ -48,13 +37,15 @@ impl Row for Numbers {
     ghost items = { λ s. held s.from s.to };
 
     fn count(&self) -> usize {
-        held_count(self.from, self.to)
+        within(self.distance(), MOST)
     }
 
     fn item(&self, k: usize) -> Option<i64> {
-        let n = held_count(self.from, self.to);
-        if k < n {
-            Some(self.from + k as i64)
+        // Read whole, so that both ends are known to be 64-bit numbers.
+        let numbers = *self;
+        // `then` would have to hand its closure the bound as a `requires`.
+        if k < self.count() {
+            Some(numbers.from + k as i64)
         } else {
             None
         }

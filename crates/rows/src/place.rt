@@ -5,11 +5,5 @@ ghost use Rattle.rows.specs.Counted.{natural_part};
 pub(crate) fn within(place: i128, count: usize) -> usize
     ensures { result ≡ min (natural_part place) count }
 {
-    if place < 0 {
-        return 0;
-    }
-    if place > count as i128 {
-        return count;
-    }
-    place as usize
+    place.clamp(0, count as i128) as usize
 }

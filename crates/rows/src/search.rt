@@ -20,15 +20,5 @@ pub fn first_match<T: Drop, R: Row<Item = T>, E: Equality<T>>(
     ensures place { result ≡ first_from (λ x. E.Equality.equals equality.now x target.now) 0 (R.Row.items row.now) }
     ensures first { MatchOption result (NoneAt (λ x. E.Equality.equals equality.now x target.now) (R.Row.items row.now)) (FirstAt (λ x. E.Equality.equals equality.now x target.now) (R.Row.items row.now)) }
 {
-    for k in 0..row.count() {
-        match row.item(k) {
-            Some(x) => {
-                if equality.same(&x, target) {
-                    return Some(k);
-                }
-            }
-            None => return None,
-        }
-    }
-    None
+    (0..row.count()).find(|&k| row.item(k).is_some_and(|x| equality.same(&x, target)))
 }

@@ -1,13 +1,14 @@
-ghost use Rattle.std.specs.Prelude.{◌≡◌, pos};
+ghost use Rattle.std.specs.Prelude.{◌≡◌, length, pos};
 ghost use Rattle.std.specs.Option.{unwrap_or};
 ghost use Rattle.rows.specs.Spans.{start_of, end_of};
 ghost use Rattle.rows.specs.Windows.{windowed, WorkedWindows};
 
 use crate::place::within;
 use crate::row::Row;
+use std::ops::Range;
 
 /// A part of a row: the items at places not below the offset and, given a limit, below offset plus limit; reversed last.
-#[derive(Drop)]
+#[derive(Drop, Debug, PartialEq, Eq)]
 pub struct Window<R> {
     row: R,
     offset: i64,
@@ -29,22 +30,18 @@ impl<R: Row> Window<R> {
             reversed,
         }
     }
-}
 
-// Where a window over `count` items begins.
-fn start(offset: i64, count: usize) -> usize
-    ensures { result ≡ start_of offset count }
-{
-    within(offset as i128, count)
-}
-
-// Where such a window ends.
-fn end(offset: i64, limit: Option<i64>, count: usize) -> usize
-    ensures { result ≡ end_of offset limit count }
-{
-    match limit {
-        Some(n) => within(offset as i128 + n as i128, count),
-        None => count,
+    // The places of the row that the window shows: none where the end is not past the start.
+    fn places(&self) -> Range<usize>
+        ensures start { result.start ≡ start_of self.now.offset (length (R.Row.items self.now.row)) }
+        ensures end { result.end ≡ end_of self.now.offset self.now.limit (length (R.Row.items self.now.row)) }
+    {
+        let count = self.row.count();
+        let offset = self.offset as i128;
+        let end = self
+            .limit
+            .map_or(count, |limit| within(offset + limit as i128, count));
+        within(offset, count)..end
     }
 }
 
@@ -54,21 +51,18 @@ impl<R: Row> Row for Window<R> {
     ghost items = { λ w. windowed w.offset w.limit w.reversed (R.Row.items w.row) };
 
     fn count(&self) -> usize {
-        let n = self.row.count();
-        end(self.offset, self.limit, n).saturating_sub(start(self.offset, n))
+        self.places().len()
     }
 
     fn item(&self, k: usize) -> Option<R::Item> {
-        let n = self.row.count();
-        let from = start(self.offset, n);
-        let to = end(self.offset, self.limit, n);
-        if k >= to.saturating_sub(from) {
+        let places = self.places();
+        if k >= places.len() {
             return None;
         }
         if self.reversed {
-            self.row.item(to - 1 - k)
+            self.row.item(places.end - 1 - k)
         } else {
-            self.row.item(from + k)
+            self.row.item(places.start + k)
         }
     }
 }

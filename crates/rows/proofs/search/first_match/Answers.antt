@@ -1,18 +1,14 @@
-use Rattle.std.proofs.Common.{arith}
-use Rattle.rows.proofs.Firsts.{seek_none, seek_more, seek_here, seek_all, seek_gone}
+use Rattle.std.proofs.Common.{◌≡◌, true, false, rules}
+use borrow.Author.Tests.{tests}
+use Rattle.std.specs.List.{slice_get}
+use Rattle.std.proofs.lemmas.Iterator.{first_from_Range}
+use Rattle.rows.proofs.Firsts.{test_of, found}
 use Rattle.rows.proofs.search.first_match.Goals as goal
 
-pub loop-k-init : goal.loop-k-init
-loop-k-init g c = seek_none _ _
-
-pub returns-then-same : goal.returns-then-same
-returns-then-same g c = let s = seek_here c.loop-k.invariant c.in-Some.x c.in-Some.ensures c.if-same.ensures in record { place = s.0; first = s.1 }
-
-pub returns-in-None : goal.returns-in-None
-returns-in-None g c = let s = seek_gone c.loop-k.invariant c.in-None.ensures in record { place = s.0; first = s.1 }
-
-pub loop-k-preserved : goal.loop-k-preserved
-loop-k-preserved g c = seek_more c.loop-k.invariant c.in-Some.x c.in-Some.ensures c.if-same.ensures
-
 pub returns : goal.returns
-returns g c = let s = seek_all c.loop-k.invariant (omega (arith, c.count-k-end.ensures)) in record { place = s.0; first = s.1 }
+returns g c =
+    let p = λ (x : g.row.T.Denot). g.E.Equality.equals c.args.equality.now x c.args.target.now in
+    let xs = g.R.Row.items c.args.row.now in
+    let f = first_from_Range _ _ _ c.find.result (λ i. test_of p (slice_get xs i) ≡ true) (λ i. test_of p (slice_get xs i) ≡ false) c.find.ensures.ran (λ x q k. search (rules, tests)) (λ x q k. search (rules, tests)) in
+    let s = found p xs _ c.find.result c.count.ensures f in
+    record { place = s.0; first = s.1 }
