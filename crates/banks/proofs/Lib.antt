@@ -1,2 +1,1 @@
 mod Fetching
-mod Names

@@ -35,7 +35,7 @@ impl<'a> Phrases<'a> {
 fn phrase_at<'a>(tray: &Tray<'a>, i: usize) -> Option<&'a [u8]>
     ensures { MatchOption result (phrase_of (value_of tray.now i) ≡ Err NoPhrase) (λ t. Fetched (phrase_of (value_of tray.now i)) t.now) }
 {
-    let Record::Text(_, _) = tray.record(i) else {
+    let Record::Text(_) = tray.record(i) else {
         return None;
     };
     let text = tray.text_of(i);
@@ -57,7 +57,7 @@ fn fetch<'a>(tray: &Tray<'a>, input: Operand, argument: Option<Operand>) -> Resu
 }
 
 // Whether the bank knows the name.
-#[tactic(auto, using(crate::proofs::Names::same_reads, std::proofs::lemmas::Bool::Decides::nat_tests))]
+#[tactic(auto, using(tray::proofs::Same::same_reads, std::proofs::lemmas::Bool::Decides::nat_tests))]
 fn is_known(name: &[u8]) -> bool
     ensures { result ≡ same_text name.now (codes "phrase") }
 {

@@ -24,7 +24,7 @@ enum Operation {
 }
 
 // The operation of that name.
-#[tactic(auto, using(crate::proofs::Names::same_reads, std::proofs::lemmas::Bool::Decides::nat_tests))]
+#[tactic(auto, using(tray::proofs::Same::same_reads, std::proofs::lemmas::Bool::Decides::nat_tests))]
 fn named(name: &[u8]) -> Option<Operation>
     ensures { option_map rule result ≡ operation_of name.now }
 {

@@ -1,5 +1,5 @@
 -- Steps and rows on records are those on the trees of values.
-use Rattle.std.proofs.Common.{◌≡◌, ℕ, zero, suc, ◌+◌, Bool, true, false, cond, ltb, List, [], ◌∷◌, map, length, ℤ, pos, negsuc, Some, None, codes, Option, sym, refl, ap, ◌∙◌, arith}
+use Rattle.std.proofs.Common.{◌≡◌, ℕ, zero, suc, ◌+◌, Bool, true, false, cond, ltb, List, [], ◌∷◌, map, length, ℤ, pos, negsuc, Some, None, codes, Option, sym, refl, ap, ap₂, ◌∙◌, arith}
 use Rattle.std.specs.Option.{option_map, option_or}
 use Rattle.tray.specs.declared.records.Record.{Record}
 use Rattle.tray.specs.declared.records.Record.TheVariants.{Nil, Boolean, Whole, Text, Array, Object}
@@ -8,7 +8,7 @@ use Rattle.tray.specs.Sound.{at, Behind, KeysText}
 use Rattle.values.specs.Value.{Value, find}
 use Rattle.values.specs.Numbers.{place_of}
 use Rattle.values.specs.Meaning.{items_from, entries_from, shape, key_at, value_at}
-use Rattle.values.specs.RowsOf.{items_of, pairs_of}
+use Rattle.values.specs.RowsOf.{stepping, paired, items_of, pairs_of}
 use Rattle.values.specs.Steps.{indexed, into_items, sized, or_else, keyed, step_text, stepped as tree_stepped}
 use Rattle.values.proofs.Unfolds.{unfolds, stands}
 use Rattle.values.proofs.Stepping.{count_items, count_entries, index_some, index_none}
@@ -18,6 +18,11 @@ use Rattle.meaning.specs.Things.{Held, nil, boolean, whole, text, array, object,
 use Rattle.meaning.specs.Hosts.{Host, value_of, kept_record, record_at, if_array, if_object, if_pair, read_again, item_at, step_into_items, entry_of, key_of, step_into_entries, step_into_record, stepped}
 use Rattle.meaning.specs.Rows.{record_row, row}
 use Rattle.meaning.specs.Reading.{tree_step, tree_row, StepsAgree, RowsAgree, ReadAgainIsThere}
+
+-- a list seen through g, and then h
+mapped : {X : Type 0} (g : ℕ → X) (h : X → Value) (f : ℕ → Value) → ((i : ℕ) → h (g i) ≡ f i) → (xs : List ℕ) → map h (map g xs) ≡ map f xs
+mapped g h f e [] = refl
+mapped g h f e (x ∷ xs) = ap₂ (λ v vs. v ∷ vs) (e x) (mapped g h f e xs)
 
 mapped_cond : {A B : Type 0} (f : A → B) (b : Bool) (x y : Option A) {u v : Option B} → option_map f x ≡ u → option_map f y ≡ v → option_map f (cond b x y) ≡ cond b u v
 mapped_cond f true x y p q = p
@@ -38,9 +43,9 @@ module _ (h : Host) (b : Behind h.records) where
       go Nil e = sym (stands h.records h.letters i Nil b e)
       go (Boolean x) e = sym (stands h.records h.letters i (Boolean x) b e)
       go (Whole z) e = sym (stands h.records h.letters i (Whole z) b e)
-      go (Text p n) e = sym (stands h.records h.letters i (Text p n) b e)
-      go (Array f n) e = refl
-      go (Object f n) e = refl
+      go (Text s) e = sym (stands h.records h.letters i (Text s) b e)
+      go (Array s) e = refl
+      go (Object s) e = refl
 
   item_agrees : (f n : ℕ) (z : ℤ) → option_map (value_of h) (item_at h f n z) ≡ indexed (items_from valued f n) z
   item_agrees f n z = go (place_of n z) refl
@@ -78,9 +83,9 @@ module _ (h : Host) (b : Behind h.records) where
   record_agrees Nil s = refl
   record_agrees (Boolean x) s = refl
   record_agrees (Whole z) s = refl
-  record_agrees (Text p n) s = refl
-  record_agrees (Array f n) s = items_agree f n s
-  record_agrees (Object f n) s = entries_agree f n (key_of h s) ∙ ap (keyed (entries_from keys valued f n)) (key_agrees s)
+  record_agrees (Text r) s = refl
+  record_agrees (Array r) s = items_agree r.first r.count s
+  record_agrees (Object r) s = entries_agree r.first r.count (key_of h s) ∙ ap (keyed (entries_from keys valued r.first r.count)) (key_agrees s)
 
   at_agrees : (i : ℕ) (s : Step) → option_map (value_of h) (step_into_record h (at h.records i) s) ≡ tree_stepped (valued i) (tree_step s)
   at_agrees i s = record_agrees (at h.records i) s ∙ ap (λ v. tree_stepped v (tree_step s)) (sym (unfolds h.records h.letters b i))
@@ -99,20 +104,20 @@ module _ (h : Host) (b : Behind h.records) where
     array_agrees Nil e q = let z : ◌≡◌ {A = ℕ} 0 1 = cc in absurd (omega arith)
     array_agrees (Boolean x) e q = let z : ◌≡◌ {A = ℕ} 0 1 = cc in absurd (omega arith)
     array_agrees (Whole x) e q = let z : ◌≡◌ {A = ℕ} 0 1 = cc in absurd (omega arith)
-    array_agrees (Text p n) e q = let z : ◌≡◌ {A = ℕ} 0 1 = cc in absurd (omega arith)
-    array_agrees (Array f n) e q =
-        ap (λ o. option_or o (pairs_of (valued i))) (array_row h.records h.letters b i (record_at h) (value_of h) record_value f n e)
-    array_agrees (Object f n) e q = let z : ◌≡◌ {A = ℕ} 0 1 = cc in absurd (omega arith)
+    array_agrees (Text s) e q = let z : ◌≡◌ {A = ℕ} 0 1 = cc in absurd (omega arith)
+    array_agrees (Array s) e q =
+        ap (λ o. option_or o (pairs_of (valued i))) (ap Some (mapped (record_at h) (value_of h) valued record_value (stepping s.first 1 s.count)) ∙ array_row h.records h.letters b i s e)
+    array_agrees (Object s) e q = let z : ◌≡◌ {A = ℕ} 0 1 = cc in absurd (omega arith)
 
     object_agrees : (r : Record) → r ≡ at h.records i → if_object h i r ≡ object i → option_map (map (value_of h)) (record_row h r) ≡ tree_row (valued i)
     object_agrees Nil e q = let z : ◌≡◌ {A = ℕ} 0 1 = cc in absurd (omega arith)
     object_agrees (Boolean x) e q = let z : ◌≡◌ {A = ℕ} 0 1 = cc in absurd (omega arith)
     object_agrees (Whole x) e q = let z : ◌≡◌ {A = ℕ} 0 1 = cc in absurd (omega arith)
-    object_agrees (Text p n) e q = let z : ◌≡◌ {A = ℕ} 0 1 = cc in absurd (omega arith)
-    object_agrees (Array f n) e q = let z : ◌≡◌ {A = ℕ} 0 1 = cc in absurd (omega arith)
-    object_agrees (Object f n) e q =
-        object_row h.records h.letters b i pair (value_of h) (λ c. refl) kt f n e
-        ∙ sym (ap (λ v. option_or (items_of v) (pairs_of (valued i))) (stands h.records h.letters i (Object f n) b e))
+    object_agrees (Text s) e q = let z : ◌≡◌ {A = ℕ} 0 1 = cc in absurd (omega arith)
+    object_agrees (Array s) e q = let z : ◌≡◌ {A = ℕ} 0 1 = cc in absurd (omega arith)
+    object_agrees (Object s) e q =
+        ap Some (mapped pair (value_of h) (λ c. paired (valued c) (valued (c + 1))) (λ c. refl) (stepping s.first 2 s.count)) ∙ object_row h.records h.letters b i kt s e
+        ∙ sym (ap (λ v. option_or (items_of v) (pairs_of (valued i))) (stands h.records h.letters i (Object s) b e))
 
   rows : KeysText h.records → (v : Held) → read_again h v ≡ v → option_map (map (value_of h)) (row h v) ≡ tree_row (value_of h v)
   rows kt nil q = refl
@@ -134,29 +139,29 @@ module _ (h : Host) (i : ℕ) where
   array_again Nil e = refl
   array_again (Boolean x) e = refl
   array_again (Whole z) e = refl
-  array_again (Text p n) e = refl
-  array_again (Array f n) e = sym (ap (if_array h i) e)
-  array_again (Object f n) e = refl
+  array_again (Text s) e = refl
+  array_again (Array s) e = sym (ap (if_array h i) e)
+  array_again (Object s) e = refl
 
   object_again : (r : Record) → r ≡ at h.records i → read_again h (if_object h i r) ≡ if_object h i r
   object_again Nil e = refl
   object_again (Boolean x) e = refl
   object_again (Whole z) e = refl
-  object_again (Text p n) e = refl
-  object_again (Array f n) e = refl
-  object_again (Object f n) e = sym (ap (if_object h i) e)
+  object_again (Text s) e = refl
+  object_again (Array s) e = refl
+  object_again (Object s) e = sym (ap (if_object h i) e)
 
   pair_again : (r : Record) → r ≡ at h.records i → read_again h (if_pair h i r) ≡ if_pair h i r
   pair_again Nil e = refl
   pair_again (Boolean x) e = refl
   pair_again (Whole z) e = refl
-  pair_again (Text p n) e = go (ltb (i + 1) (length h.records)) refl
+  pair_again (Text s) e = go (ltb (i + 1) (length h.records)) refl
     where
       go : (c : Bool) → c ≡ ltb (i + 1) (length h.records) → read_again h (cond c (pair i) nil) ≡ cond c (pair i) nil
       go true q = sym (ap (if_pair h i) e) ∙ sym (ap (λ c. cond c (pair i) nil) q)
       go false q = refl
-  pair_again (Array f n) e = refl
-  pair_again (Object f n) e = refl
+  pair_again (Array s) e = refl
+  pair_again (Object s) e = refl
 
 pub read_again_is_there : ReadAgainIsThere
 read_again_is_there h nil = refl

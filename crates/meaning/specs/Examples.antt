@@ -1,6 +1,7 @@
 -- Small templates, each with its source above it, and the host data that they are rendered with.
 use Rattle.std.specs.Prelude.{ℕ, Bool, true, false, List, [], ◌∷◌, ℤ, pos, Some, None, codes, Option}
 use Rattle.tray.specs.declared.records.Record.TheVariants.{Text, Array, Object}
+use Rattle.tray.specs.Parts.{span}
 use Rattle.tree.specs.Expressions.{forloop, named, key, Expr, boolean_literal, number_literal, path, row_from}
 use Rattle.tree.specs.Conditions.{equals, exists, compares, only, both, either}
 use Rattle.tree.specs.Elements.{Leaf, plain, output, increment, decrement, cycle, break}
@@ -11,7 +12,7 @@ use Rattle.meaning.specs.Hosts.{Host}
 abbrev pub abc : Host
 abc =
     record {
-      records = Object 1 1 ∷ Text 0 1 ∷ Array 3 3 ∷ Text 1 1 ∷ Text 2 1 ∷ Text 3 1 ∷ [];
+      records = Object (span 1 1) ∷ Text (span 0 1) ∷ Array (span 3 3) ∷ Text (span 1 1) ∷ Text (span 2 1) ∷ Text (span 3 1) ∷ [];
       letters = codes "labc";
     }
 

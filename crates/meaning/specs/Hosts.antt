@@ -35,9 +35,9 @@ module _ (h : Host) where
   kept_record i Nil = nil
   kept_record i (Boolean b) = boolean b
   kept_record i (Whole z) = whole z
-  kept_record i (Text p n) = text (cut h.letters p n)
-  kept_record i (Array f n) = array i
-  kept_record i (Object f n) = object i
+  kept_record i (Text s) = text (cut h.letters s.first s.count)
+  kept_record i (Array s) = array i
+  kept_record i (Object s) = object i
 
   abbrev pub record_at : ℕ → Held
   record_at i = kept_record i (at h.records i)
@@ -46,26 +46,26 @@ module _ (h : Host) where
   if_array i Nil = nil
   if_array i (Boolean b) = nil
   if_array i (Whole z) = nil
-  if_array i (Text p n) = nil
-  if_array i (Array f n) = array i
-  if_array i (Object f n) = nil
+  if_array i (Text s) = nil
+  if_array i (Array s) = array i
+  if_array i (Object s) = nil
 
   abbrev pub if_object : ℕ → Record → Held
   if_object i Nil = nil
   if_object i (Boolean b) = nil
   if_object i (Whole z) = nil
-  if_object i (Text p n) = nil
-  if_object i (Array f n) = nil
-  if_object i (Object f n) = object i
+  if_object i (Text s) = nil
+  if_object i (Array s) = nil
+  if_object i (Object s) = object i
 
   -- a pair is there where its key is a text and a record stands behind it
   abbrev pub if_pair : ℕ → Record → Held
   if_pair i Nil = nil
   if_pair i (Boolean b) = nil
   if_pair i (Whole z) = nil
-  if_pair i (Text p n) = cond (nat_lt (i + 1) (length h.records)) (pair i) nil
-  if_pair i (Array f n) = nil
-  if_pair i (Object f n) = nil
+  if_pair i (Text s) = cond (nat_lt (i + 1) (length h.records)) (pair i) nil
+  if_pair i (Array s) = nil
+  if_pair i (Object s) = nil
 
   -- A variable may have been kept from another tray. It is nil unless records of its kind are there.
   abbrev pub read_again : Held → Held
@@ -112,9 +112,9 @@ module _ (h : Host) where
   step_into_record Nil s = None
   step_into_record (Boolean b) s = None
   step_into_record (Whole z) s = None
-  step_into_record (Text p n) s = None
-  step_into_record (Array f n) s = step_into_items f n s
-  step_into_record (Object f n) s = step_into_entries f n (key_of s)
+  step_into_record (Text r) s = None
+  step_into_record (Array r) s = step_into_items r.first r.count s
+  step_into_record (Object r) s = step_into_entries r.first r.count (key_of s)
 
   abbrev pub stepped : Held → Step → Option Held
   stepped nil s = None
@@ -129,9 +129,9 @@ module _ (h : Host) where
   entries_find Nil k = None
   entries_find (Boolean b) k = None
   entries_find (Whole z) k = None
-  entries_find (Text p n) k = None
-  entries_find (Array f n) k = None
-  entries_find (Object f n) k = entry_of f n k
+  entries_find (Text s) k = None
+  entries_find (Array s) k = None
+  entries_find (Object s) k = entry_of s.first s.count k
 
   -- what a host name means: the value of that key of record 0
   abbrev pub host_name : List ℕ → Option Held

@@ -3,6 +3,7 @@ use Rattle.std.specs.Prelude.{◌≡◌, [], ◌∷◌, length, pos, negsuc, cod
 use Prim.Native.String.{String}
 use Rattle.banks.specs.Joined.{nothing}
 use Rattle.tray.specs.declared.records.Record.TheVariants.{Whole, Text, Object}
+use Rattle.tray.specs.Parts.{span}
 use Rattle.tree.specs.Expressions.{named, index, key, path}
 use Rattle.tree.specs.Conditions.{equals, contains}
 use Rattle.tree.specs.Elements.{plain, output, assign, Tree, done, leaf}
@@ -17,7 +18,7 @@ use Rattle.meaning.specs.MoreCases.{step_into_l, answers, num, txt, over_l}
 abbrev pub an_object : Host
 an_object =
     record {
-      records = Object 1 1 ∷ Text 0 1 ∷ Object 3 2 ∷ Text 1 1 ∷ Whole (pos 1) ∷ Text 2 1 ∷ Text 3 1 ∷ [];
+      records = Object (span 1 1) ∷ Text (span 0 1) ∷ Object (span 3 2) ∷ Text (span 1 1) ∷ Whole (pos 1) ∷ Text (span 2 1) ∷ Text (span 3 1) ∷ [];
       letters = codes "la7z";
     }
 

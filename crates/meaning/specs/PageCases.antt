@@ -4,6 +4,7 @@ use Rattle.banks.specs.Joined.{nothing}
 use Rattle.banks.specs.Operands as operand
 use Rattle.banks.specs.Sums.{sums}
 use Rattle.tray.specs.declared.records.Record.TheVariants.{Text, Object}
+use Rattle.tray.specs.Parts.{span}
 use Rattle.tree.specs.Expressions.{forloop, tablerowloop, key, number_literal, text_literal, path, range}
 use Rattle.tree.specs.Conditions.{equals, compares, only}
 use Rattle.tree.specs.Elements.{Leaf, plain, output, assign, if_block, case_block, for_block, tablerow_block, ifchanged_block, holds, equals_one, has_items, always, Tree, done, leaf, block, no_arms, arm}
@@ -67,7 +68,7 @@ keep_l = one_leaf (assign 0 (record { value = bare_name 2; filters = [] }))
 
 -- another tray, in which record 2 is a text
 abbrev pub no_array : Host
-no_array = record { records = Object 1 1 ∷ Text 0 1 ∷ Text 1 1 ∷ []; letters = codes "lx" }
+no_array = record { records = Object (span 1 1) ∷ Text (span 0 1) ∷ Text (span 1 1) ∷ []; letters = codes "lx" }
 
 pub record PageCases : Type 0 where
   -- a fault in the second visit: the `if` at 21, then the `for` at 0 in its visit 2

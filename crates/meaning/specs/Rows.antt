@@ -13,9 +13,9 @@ module _ (h : Host) where
   record_row Nil = None
   record_row (Boolean b) = None
   record_row (Whole z) = None
-  record_row (Text p n) = None
-  record_row (Array f n) = Some (map (record_at h) (stepping f 1 n))
-  record_row (Object f n) = Some (map pair (stepping f 2 n))
+  record_row (Text s) = None
+  record_row (Array s) = Some (map (record_at h) (stepping s.first 1 s.count))
+  record_row (Object s) = Some (map pair (stepping s.first 2 s.count))
 
   -- Nil is the empty row.
   -- Kept from liquid-lib: a text is no row, and no loop goes over it once.

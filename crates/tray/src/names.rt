@@ -9,7 +9,7 @@ use crate::records::{Record, Span};
 pub fn is_reserved(name: &[u8]) -> bool
     ensures { result ≡ reserved name.now }
 {
-    // A `match` on the four words is no plainer: it is proved byte by byte, in 33 cases.
+    // `matches!` on the four words was tried: it has 34 cases, and the proof of 7 did not close.
     same_text(name, b"forloop")
         || same_text(name, b"tablerowloop")
         || same_text(name, b"empty")

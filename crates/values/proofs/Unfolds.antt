@@ -5,7 +5,6 @@ use Rattle.std.proofs.lemmas.Bool.{cases_lt}
 use Rattle.tray.specs.declared.records.Span.{Span}
 use Rattle.tray.specs.declared.records.Record.{Record}
 use Rattle.tray.specs.declared.records.Record.TheVariants.{Nil, Boolean, Whole, Text, Array, Object}
-use Rattle.tray.specs.Parts.{key_of}
 use Rattle.tray.specs.Sound.{at, first_of, width_of, Behind, Inside}
 use Rattle.values.specs.Value.{Value, nil, array, object, Items, Entries, equal, is_nil, is_boolean, is_whole, is_text, is_array, is_object}
 use Rattle.values.specs.Meaning.{items_from, entries_from, shape, key_at, value_to, value_at, Below}

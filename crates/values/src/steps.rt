@@ -46,20 +46,16 @@ fn item(items: Span, z: i64) -> Option<Found>
     place(items.count, z).map(|k| Found::Record(items.item(k)))
 }
 
+#[tactic(auto, using(tray::proofs::Same::same_reads, std::proofs::lemmas::Bool::Decides::nat_tests))]
 fn item_named(items: Span, name: &[u8]) -> Option<Found>
     ensures { result ≡ item_named_found items.first items.count name.now }
 {
-    // A `match` on the words is no plainer: it is proved byte by byte.
-    if same_text(name, b"first") {
-        return item(items, 0);
+    match name {
+        b"first" => item(items, 0),
+        b"last" => item(items, -1),
+        b"size" => Some(Found::Size(items.count as usize)),
+        _ => None,
     }
-    if same_text(name, b"last") {
-        return item(items, -1);
-    }
-    if same_text(name, b"size") {
-        return Some(Found::Size(items.count as usize));
-    }
-    None
 }
 
 fn into_items(items: Span, step: Step) -> Option<Found>
