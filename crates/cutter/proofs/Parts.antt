@@ -2,6 +2,7 @@
 use Rattle.std.proofs.Common.{◌≡◌, ℕ, zero, suc, ◌+◌, ◌-◌, ◌^◌, ◌<◌, ◌≤◌, Bool, true, false, cond, ltb, List, [], ◌∷◌, length, get_or, take, drop, ℤ, Some, None, codes, Option, sym, refl, ap, ◌∙◌, arith}
 use Rattle.std.specs.Str.{bytes_eq}
 use Rattle.std.proofs.lemmas.List.{take-append-drop, length-take, length-drop}
+use Rattle.std.proofs.lemmas.List.Sums.{prefix_len-le-length}
 use Rattle.std.proofs.lemmas.Bool.{cond-true, cond-false, cond_both}
 use Rattle.numerals.specs.Decimal.{whole_of}
 use Rattle.cutter.specs.Left.{slice}
@@ -10,7 +11,7 @@ use Rattle.cutter.specs.Tokens.{is_nil, is_text, is_path, word_of, name_of, boun
 use Rattle.cutter.specs.declared.lengths.Symbol.{Symbol}
 use Rattle.cutter.specs.declared.lengths.Class.{Class}
 use Rattle.cutter.specs.declared.lengths.Class.TheVariants.{Blank, Initial, Quote, Is}
-use Rattle.cutter.proofs.Runs.{stands_within}
+use Rattle.cutter.proofs.Runs.{stands_within, run_is}
 
 -- one of several, by the first test that holds
 pub take_first : {X : Type 0} (a : Bool) (x y : X) → true ≡ a → x ≡ cond a x y
@@ -26,12 +27,7 @@ pub take_last : {X : Type 0} (a b c : Bool) (x y z w : X) → false ≡ a → fa
 take_last a b c x y z w e f g = sym (cond-false a x _ (sym e) ∙ cond-false b y _ (sym f) ∙ cond-false c z w (sym g))
 
 pub run_short : (c : Class) (bs : List ℕ) → run c bs ≤ length bs
-run_short c [] = omega arith
-run_short c (b ∷ bs) = go (has c b) (run_short c bs)
-  where
-    go : (t : Bool) → run c bs ≤ length bs → cond t (1 + run c bs) 0 ≤ length (b ∷ bs)
-    go true ih = omega arith
-    go false ih = omega arith
+run_short c bs = omega (arith, run_is c bs, prefix_len-le-length (has c) bs)
 
 pub runs_within : (c : Class) (bs : List ℕ) (at : ℕ) → at ≤ length bs → at + run_at c bs at ≤ length bs
 unfolding run_at

@@ -1,5 +1,7 @@
 // The steps of a path.
-ghost use Rattle.std.specs.Prelude.{◌+◌, ◌^◌, ◌<◌, ◌≤◌, length};
+ghost use Rattle.std.specs.Prelude.{◌+◌, ◌^◌, ◌<◌, length};
+
+use crate::lengths::Place;
 
 pub mod walk;
 
@@ -10,12 +12,10 @@ pub enum StepWord<'a> {
     Key(usize, &'a [u8]),
 }
 
-/// The steps in `bytes` as written, whose first byte is at `place`, taken up to `at`.
+/// The steps in some bytes as written, whose first byte is at `place`, taken up to a place among them.
 #[derive(Clone, Copy)]
 pub struct Steps<'a> {
     place: usize,
-    bytes: &'a [u8],
-    at: usize,
-    ghost within: { at ≤ length bytes.now },
-    ghost fits: { place + length bytes.now < 2 ^ 64 },
+    rest: Place<'a>,
+    ghost fits: { place + length rest.src.now < 2 ^ 64 },
 }

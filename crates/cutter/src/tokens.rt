@@ -1,7 +1,5 @@
 // The tokens of a mark's inside.
-ghost use Rattle.std.specs.Prelude.{◌≤◌, length};
-
-use crate::lengths::Symbol;
+use crate::lengths::{Place, Symbol};
 
 pub mod ahead;
 pub mod reading;
@@ -27,15 +25,13 @@ pub enum Token<'a> {
 }
 
 /// Refusal 4: at `place` no token can be cut.
-#[derive(Clone, Copy)]
+#[derive(Clone, Copy, Debug, PartialEq, Eq)]
 pub struct NoToken {
     pub place: usize,
 }
 
-/// The bytes `src`, cut into tokens up to `at`.
+/// Bytes, cut into tokens up to a place.
 #[derive(Clone, Copy)]
 pub struct Cursor<'a> {
-    src: &'a [u8],
-    at: usize,
-    ghost within: { at ≤ length src.now },
+    rest: Place<'a>,
 }

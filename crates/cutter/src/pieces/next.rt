@@ -3,7 +3,6 @@ ghost use Rattle.cutter.specs.Scan.{cut, cut_at};
 ghost use Rattle.cutter.specs.Left.{left, Gave};
 ghost use Rattle.cutter.specs.Laws.{RightCut, OnlyCut, Joins, TidyPieces, RightCutAt, OnlyCutAt, JoinsAt, TidyPiecesAt};
 
-use crate::lengths::within;
 use crate::pieces::{Cutter, Piece, Unclosed};
 use crate::state::{Event, State};
 
@@ -16,12 +15,7 @@ impl<'a> Cutter<'a> {
         ensures joins { Joins }
         ensures tidy { TidyPieces }
     {
-        Cutter {
-            src,
-            start: 0,
-            at: 0,
-            state: State::Text,
-        }
+        Cutter::at(src, 0)
     }
 
     /// The bytes of `src` from `place` on, to cut; nothing where it has fewer. Places count from the first byte of `src`.
@@ -32,7 +26,7 @@ impl<'a> Cutter<'a> {
         ensures joins { JoinsAt }
         ensures tidy { TidyPiecesAt }
     {
-        let from = within(src, place);
+        let from = place.min(src.len());
         let state = State::Text;
         Cutter {
             src,

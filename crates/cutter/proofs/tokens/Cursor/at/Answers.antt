@@ -1,7 +1,9 @@
 use Rattle.cutter.proofs.Fill.{tokens_fill_from}
-use Rattle.cutter.proofs.Filled.{starts}
 use Rattle.cutter.proofs.Standing.{tokens_stand}
 use Rattle.cutter.proofs.tokens.Cursor.at.Goals as goal
 
-pub returns : goal.returns
-returns c = record { tokens = starts c.args.src.now c.args.place c.within.result c.within.ensures; fill = tokens_fill_from; stand = tokens_stand }
+pub returns-clause-fill : goal.returns-clause-fill
+returns-clause-fill c = tokens_fill_from
+
+pub returns-clause-stand : goal.returns-clause-stand
+returns-clause-stand c = tokens_stand
