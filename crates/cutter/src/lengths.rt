@@ -6,7 +6,7 @@ use numerals::read_whole;
 
 // The classes of bytes: blanks, digits, what a name begins with, what it goes on with, quotes, one byte, and all but one.
 #[derive(Clone, Copy, Debug, PartialEq, Eq)]
-pub enum Class {
+pub(crate) enum Class {
     Blank,
     Digit,
     Initial,

@@ -6,7 +6,7 @@ use crate::lengths::Place;
 pub mod walk;
 
 /// A step of a path: an index, or a key with its place.
-#[derive(Clone, Copy)]
+#[derive(Clone, Copy, Debug, PartialEq, Eq)]
 pub enum StepWord<'a> {
     Index(i64),
     Key(usize, &'a [u8]),

@@ -7,7 +7,7 @@ use crate::state::{Kind, State};
 pub mod next;
 
 /// A piece of a part, with the place where it begins: a text, a mark with the bytes between its opening and its closing mark, or the end.
-#[derive(Clone, Copy)]
+#[derive(Clone, Copy, Debug, PartialEq, Eq)]
 pub enum Piece<'a> {
     Text(usize, &'a [u8]),
     Mark(Kind, usize, &'a [u8]),
@@ -15,7 +15,7 @@ pub enum Piece<'a> {
 }
 
 /// Refusal 3: the mark that begins at `place` is not closed.
-#[derive(Clone, Copy)]
+#[derive(Clone, Copy, Debug, PartialEq, Eq)]
 pub struct Unclosed {
     pub place: usize,
 }

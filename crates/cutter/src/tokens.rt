@@ -5,14 +5,14 @@ pub mod ahead;
 pub mod reading;
 
 /// A token as written, with its place.
-#[derive(Clone, Copy)]
+#[derive(Clone, Copy, Debug, PartialEq, Eq)]
 pub struct Word<'a> {
     pub place: usize,
     pub bytes: &'a [u8],
 }
 
 /// What a token stands for: a literal with its value (a text without its quotes), a bare name, a path's first name and its steps as written, the two bounds of a range, or a symbol.
-#[derive(Clone, Copy)]
+#[derive(Clone, Copy, Debug, PartialEq, Eq)]
 pub enum Token<'a> {
     Nil,
     Boolean(bool),
