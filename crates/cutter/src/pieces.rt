@@ -6,12 +6,11 @@ use crate::state::{Kind, State};
 
 pub mod next;
 
-/// A piece of a part, with the place where it begins: a text, a mark with the bytes between its opening and its closing mark, or the end.
+/// A piece of a part, with the place where it begins: a text, or a mark with the bytes between its opening and its closing mark.
 #[derive(Clone, Copy, Debug, PartialEq, Eq)]
 pub enum Piece<'a> {
     Text(usize, &'a [u8]),
     Mark(Kind, usize, &'a [u8]),
-    End,
 }
 
 /// Refusal 3: the mark that begins at `place` is not closed.

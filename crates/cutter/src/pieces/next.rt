@@ -36,28 +36,27 @@ impl<'a> Cutter<'a> {
         }
     }
 
-    /// The next piece; the end, or an unclosed mark, again and again.
-    pub fn next(&mut self) -> Result<Piece<'a>, Unclosed>
+    #[tactic(auto, using(crate::proofs::Steps::goes, crate::proofs::Steps::opens_text, crate::proofs::Steps::closes))]
+    /// The next piece; nothing behind the last, and an unclosed mark again and again.
+    pub fn next(&mut self) -> Result<Option<Piece<'a>>, Unclosed>
         ensures { Gave (left self.old) result (left self.new) }
     {
-        let src = self.src;
-        while self.at < src.len() {
+        while let Some(b) = self.src.get(self.at) {
             let at = self.at;
             let start = self.start;
-            let b = src[at];
-            let event = self.state.step(b);
+            let event = self.state.step(*b);
             self.at = at + 1;
             match event {
                 Event::Goes => {}
                 Event::Opens => {
                     self.start = at - 1;
                     if start < at - 1 {
-                        return Ok(Piece::Text(start, &src[start..at - 1]));
+                        return Ok(Some(Piece::Text(start, &self.src[start..at - 1])));
                     }
                 }
                 Event::Closes(kind) => {
                     self.start = at + 1;
-                    return Ok(Piece::Mark(kind, start, &src[start + 2..at - 1]));
+                    return Ok(Some(Piece::Mark(kind, start, &self.src[start + 2..at - 1])));
                 }
             }
         }
@@ -67,9 +66,9 @@ impl<'a> Cutter<'a> {
                 if start < self.at {
                     self.start = self.at;
                     self.state = State::Text;
-                    Ok(Piece::Text(start, &src[start..self.at]))
+                    Ok(Some(Piece::Text(start, &self.src[start..self.at])))
                 } else {
-                    Ok(Piece::End)
+                    Ok(None)
                 }
             }
             _ => Err(Unclosed { place: start }),
