@@ -27,6 +27,10 @@ number_some src at end z e h =
     let all : number_length src at ≡ signed_length src at = ap (λ o. if_number o (signed_length src at)) (sym read) in
     (omega (arith, all, some_digits src at (signed_length src at) z read), omega (arith, e, all))
 
+pub number_none : (src : List ℕ) (at end : ℕ) → end ≡ at + signed_length src at → None ≡ whole_of (slice src at end) → number_length src at ≡ 0
+unfolding number_length
+number_none src at end e h = ap (λ o. if_number o (signed_length src at)) (sym (h ∙ ap (λ k. whole_of (slice src at k)) e))
+
 -- steps
 skipped : (src : List ℕ) (at k : ℕ) (bs : List ℕ) → k ≤ length bs → steps src at k bs ≡ k + steps src (at + k) 0 (drop k bs)
 skipped src at zero [] h = refl

@@ -1,9 +1,8 @@
 -- One byte of the cutter, and the end.
-use Rattle.std.proofs.Common.{◌≡◌, ℕ, ◌+◌, ◌-◌, ◌<◌, ◌≤◌, min, true, ◌⊎◌, List, [], ◌∷◌, ◌++◌, length, get_or, take, drop, sym, refl, ap, ◌∙◌, inl, inr, ⊎_elim, arith, rules}
-use Rattle.std.proofs.lemmas.List.{at_drop_more, at_drop_all, take-take, length-take-le, length-drop, take_more, get_or-drop, drop-take, drop-drop, drop_all}
-use Rattle.std.proofs.lemmas.Bool.{cases_lt}
-use Rattle.cutter.specs.Cuts.{Cut, done, unclosed, text, mark}
-use Rattle.cutter.specs.Scan.{stepped, brings, scan, ended, some_text, all_but_last, last_of, placed}
+use Rattle.std.proofs.Common.{◌≡◌, ℕ, ◌+◌, ◌-◌, ◌<◌, ◌≤◌, true, List, [], ◌∷◌, ◌++◌, length, get_or, take, drop, sym, refl, ap, ◌∙◌, arith, rules}
+use Rattle.std.proofs.lemmas.List.{at_drop_more, take-take, length-take-le, length-drop, take_more, get_or-drop, drop-take, drop-drop}
+use Rattle.cutter.specs.Cuts.{Cut, text, mark}
+use Rattle.cutter.specs.Scan.{stepped, brings, scan, some_text, all_but_last, last_of, placed}
 use Rattle.cutter.specs.Left.{slice}
 use Rattle.cutter.specs.declared.state.Kind.{Kind}
 use Rattle.cutter.specs.declared.state.State.{State}

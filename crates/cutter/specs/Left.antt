@@ -12,7 +12,7 @@ abbrev pub slice : List ℕ → ℕ → ℕ → List ℕ
 slice src i j = take (j - i) (drop i src)
 
 abbrev pub left : Cutter → Cut
-left c = scan c.state c.start (slice c.src.now c.start c.at) (drop c.at c.src.now)
+left c = scan c.state c.start (slice c.rest.src.now c.start c.rest.at) (drop c.rest.at c.rest.src.now)
 
 -- what `next` answers, by what was left before and what is left after
 abbrev pub Gave : Cut → Result (Option Piece) Unclosed → Cut → Type 0

@@ -2,7 +2,7 @@
 use Rattle.std.specs.Prelude.{◌≡◌, ℕ, ◌+◌, ◌<◌, cond, List, Some, None, Option}
 use Rattle.cutter.specs.Lengths.{stands}
 use Rattle.cutter.specs.declared.lengths.Class.{Class}
-use Rattle.cutter.specs.declared.lengths.Place.{Place}
+use Rattle.cutter.specs.declared.places.Place.{Place}
 
 -- q lies behind p by the length that f gives there
 abbrev pub Past : (List ℕ → ℕ → ℕ) → Place → Place → Type 0

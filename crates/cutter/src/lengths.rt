@@ -1,7 +1,10 @@
 // Places in some bytes, and what begins there: names, numbers, texts, paths, ranges, symbols and tokens.
-ghost use Rattle.std.specs.Prelude.{◌≡◌, ◌≤◌, length, slice_index};
+ghost use Rattle.std.specs.Prelude.{◌≡◌, slice_index};
 ghost use Rattle.cutter.specs.Lengths.{has, stands, run_at, name_length, number_length, signed_length, text_length, key_length, step_length, steps_length, is_literal, path_length, value_length, bound_length, range_length, width, symbol_of, symbol_length, token_length};
+ghost use Rattle.cutter.specs.Places.{Past, Behind, one};
+ghost use Rattle.cutter.specs.declared.lengths.Class.TheVariants.{Is};
 
+use crate::places::Place;
 use numerals::read_whole;
 
 // The classes of bytes: blanks, digits, what a name begins with, what it goes on with, quotes, one byte, and all but one.
@@ -59,19 +62,8 @@ impl Symbol {
     }
 }
 
-// A place in the bytes `src`: before the byte at `at`, or at the end.
-#[derive(Clone, Copy)]
-pub(crate) struct Place<'a> {
-    pub(crate) src: &'a [u8],
-    pub(crate) at: usize,
-    ghost inside: { at ≤ length src.now },
-}
-
 // Each method but `stands` answers a place: behind what it is named after, which begins here; `None` where none begins.
 impl<'a> Place<'a> {
-    ghost use Rattle.cutter.specs.Places.{Past, Behind, one};
-    ghost use Rattle.cutter.specs.declared.lengths.Class.TheVariants.{Is};
-
     // Whether a byte of the class stands here.
     pub(crate) fn stands(self, class: Class) -> bool
         ensures { result ≡ stands class self.entry.src.now self.entry.at }
@@ -127,7 +119,7 @@ impl<'a> Place<'a> {
         self.skip(b'-').unwrap_or(self).run(Class::Digit)
     }
 
-    #[tactic(auto, unfolding(crate::specs::Lengths::number_length))]
+    #[tactic(auto, using(crate::proofs::Runs::number_some, crate::proofs::Runs::number_none))]
     fn number(self) -> Option<Self>
         ensures { Behind number_length self.entry result }
     {

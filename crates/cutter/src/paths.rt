@@ -1,7 +1,7 @@
 // The steps of a path.
 ghost use Rattle.std.specs.Prelude.{◌+◌, ◌^◌, ◌<◌, length};
 
-use crate::lengths::Place;
+use crate::places::Place;
 
 pub mod walk;
 

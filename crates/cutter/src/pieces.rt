@@ -1,7 +1,8 @@
 // A part under the cutter, and its pieces.
-ghost use Rattle.std.specs.Prelude.{◌≡◌, ◌≤◌, true, length};
+ghost use Rattle.std.specs.Prelude.{◌≡◌, true};
 ghost use Rattle.cutter.specs.Scan.{placed};
 
+use crate::places::Place;
 use crate::state::{Kind, State};
 
 pub mod next;
@@ -19,13 +20,11 @@ pub struct Unclosed {
     pub place: usize,
 }
 
-/// The bytes `src`, cut up to `start`, where a piece begins that is read up to `at`.
+/// Bytes, cut up to `start`, where a piece begins that is read up to a place behind it.
 #[derive(Drop)]
 pub struct Cutter<'a> {
-    src: &'a [u8],
+    rest: Place<'a>,
     start: usize,
-    at: usize,
     state: State,
-    ghost within: { at ≤ length src.now },
-    ghost placed: { placed state start at ≡ true },
+    ghost placed: { placed state start rest.at ≡ true },
 }

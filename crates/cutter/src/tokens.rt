@@ -1,5 +1,6 @@
 // The tokens of a mark's inside.
-use crate::lengths::{Place, Symbol};
+use crate::lengths::Symbol;
+use crate::places::Place;
 
 pub mod ahead;
 pub mod reading;

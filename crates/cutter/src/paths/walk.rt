@@ -2,8 +2,8 @@ ghost use Rattle.std.specs.Prelude.{◌≡◌, ◌+◌, ◌^◌, ◌<◌, ◌≤
 ghost use Rattle.numerals.specs.Decimal.{whole_of};
 ghost use Rattle.cutter.specs.Paths.{bracket_of, step_of, steps_of, steps_left, placed_step, Walked, KeysAreInside};
 
-use crate::lengths::Place;
 use crate::paths::{StepWord, Steps};
+use crate::places::Place;
 use crate::tokens::reading::{fits, inner};
 use numerals::read_whole;
 

@@ -4,6 +4,7 @@ ghost use Rattle.cutter.specs.Left.{left, Gave};
 ghost use Rattle.cutter.specs.Laws.{RightCut, OnlyCut, Joins, TidyPieces, RightCutAt, OnlyCutAt, JoinsAt, TidyPiecesAt};
 
 use crate::pieces::{Cutter, Piece, Unclosed};
+use crate::places::Place;
 use crate::state::{Event, State};
 
 impl<'a> Cutter<'a> {
@@ -19,6 +20,7 @@ impl<'a> Cutter<'a> {
     }
 
     /// The bytes of `src` from `place` on, to cut; nothing where it has fewer. Places count from the first byte of `src`.
+    #[tactic(auto, using(crate::proofs::Lawful::right_cut_at, crate::proofs::Lawful::only_cut_at, crate::proofs::Lawful::joins_at, crate::proofs::Lawful::tidy_pieces_at))]
     pub fn at(src: &'a [u8], place: usize) -> Self
         ensures cuts { left result ≡ cut_at place (drop place src.now) }
         ensures right { RightCutAt }
@@ -26,51 +28,47 @@ impl<'a> Cutter<'a> {
         ensures joins { JoinsAt }
         ensures tidy { TidyPiecesAt }
     {
-        let from = place.min(src.len());
-        let state = State::Text;
+        let start = place.min(src.len());
         Cutter {
-            src,
-            start: from,
-            at: from,
-            state,
+            rest: Place { src, at: start },
+            start,
+            state: State::Text,
         }
     }
 
-    #[tactic(auto, using(crate::proofs::Steps::goes, crate::proofs::Steps::opens_text, crate::proofs::Steps::closes))]
     /// The next piece; nothing behind the last, and an unclosed mark again and again.
+    #[tactic(auto, using(crate::proofs::Steps::goes, crate::proofs::Steps::opens_text, crate::proofs::Steps::closes))]
     pub fn next(&mut self) -> Result<Option<Piece<'a>>, Unclosed>
         ensures { Gave (left self.old) result (left self.new) }
     {
-        while let Some(b) = self.src.get(self.at) {
-            let at = self.at;
+        while let Some(b) = self.rest.src.get(self.rest.at) {
+            let Place { src, at } = self.rest;
             let start = self.start;
             let event = self.state.step(*b);
-            self.at = at + 1;
+            self.rest.at = at + 1;
             match event {
                 Event::Goes => {}
                 Event::Opens => {
                     self.start = at - 1;
                     if start < at - 1 {
-                        return Ok(Some(Piece::Text(start, &self.src[start..at - 1])));
+                        return Ok(Some(Piece::Text(start, &src[start..at - 1])));
                     }
                 }
                 Event::Closes(kind) => {
                     self.start = at + 1;
-                    return Ok(Some(Piece::Mark(kind, start, &self.src[start + 2..at - 1])));
+                    return Ok(Some(Piece::Mark(kind, start, &src[start + 2..at - 1])));
                 }
             }
         }
+        let Place { src, at } = self.rest;
         let start = self.start;
         match self.state {
-            State::Text | State::Brace => {
-                if start < self.at {
-                    self.start = self.at;
-                    self.state = State::Text;
-                    Ok(Some(Piece::Text(start, &self.src[start..self.at])))
-                } else {
-                    Ok(None)
-                }
+            State::Text | State::Brace if start < at => {
+                self.start = at;
+                self.state = State::Text;
+                Ok(Some(Piece::Text(start, &src[start..at])))
             }
+            State::Text | State::Brace => Ok(None),
             _ => Err(Unclosed { place: start }),
         }
     }

@@ -2,7 +2,8 @@ ghost use Rattle.std.specs.Prelude.{◌≡◌};
 ghost use Rattle.cutter.specs.Words.{words_from, tokens, TokensFill, TokensFillFrom, TokensStand};
 ghost use Rattle.cutter.specs.Ahead.{ahead, Took, Sees, Judged};
 
-use crate::lengths::{Class, Place};
+use crate::lengths::Class;
+use crate::places::Place;
 use crate::tokens::{Cursor, NoToken, Word};
 
 impl<'a> Cursor<'a> {
@@ -15,7 +16,7 @@ impl<'a> Cursor<'a> {
     }
 
     /// The bytes of `src` from `place` on, to cut; nothing where it has fewer. Places count from the first byte of `src`.
-    #[tactic(auto, using(crate::proofs::Filled::starts))]
+    #[tactic(auto, using(crate::proofs::Filled::starts, crate::proofs::Fill::tokens_fill_from, crate::proofs::Standing::tokens_stand))]
     pub fn at(src: &'a [u8], place: usize) -> Self
         ensures tokens { ahead result ≡ words_from src.now place }
         ensures fill { TokensFillFrom }

@@ -5,7 +5,8 @@ ghost use Rattle.std.specs.Str.{bytes_eq};
 ghost use Rattle.cutter.specs.Lengths.{name_length};
 ghost use Rattle.cutter.specs.Tokens.{inner, word_of, name_of, bound_from, bound_of, second, range_of, plain_of, token_of, reading, ReadsParts};
 
-use crate::lengths::{Class, Place, Symbol, symbol_of};
+use crate::lengths::{Class, Symbol, symbol_of};
+use crate::places::Place;
 use crate::tokens::{Token, Word};
 use numerals::read_whole;
 
@@ -13,18 +14,16 @@ use numerals::read_whole;
 pub(crate) fn fits(place: usize, bytes: &[u8]) -> bool
     ensures { result ≡ nat_lt (place + length bytes.now) (2 ^ 64) }
 {
-    bytes.len() <= usize::MAX - place
+    place.checked_add(bytes.len()).is_some()
 }
 
 // All but the first byte and the last.
 pub(crate) fn inner(bytes: &[u8]) -> &[u8]
     ensures { result.now ≡ inner bytes.now }
 {
-    let n = bytes.len();
-    if n < 2 {
-        &bytes[0..0]
-    } else {
-        &bytes[1..n - 1]
+    match bytes {
+        [_, inner @ .., _] => inner,
+        _ => b"",
     }
 }
 
@@ -44,35 +43,26 @@ fn name_of(bytes: &[u8]) -> Token<'_>
 {
     let start = Place { src: bytes, at: 0 };
     let n = start.name().map_or(0, |end| end.at);
-    if n < bytes.len() {
-        Token::Path(&bytes[..n], &bytes[n..])
-    } else {
+    let (name, steps) = bytes.split_at(n);
+    if steps.is_empty() {
         word_of(bytes)
+    } else {
+        Token::Path(name, steps)
     }
 }
 
-// The value of the bound that begins at `at` of a range at `place`.
-fn bound(place: usize, bytes: &[u8], at: usize) -> Word<'_>
-    requires within { at ≤ length bytes.now }
-    requires fits { place + length bytes.now < 2 ^ 64 }
-    ensures place { result.place ≡ place + bound_from bytes.now at }
-    ensures bytes { result.bytes.now ≡ bound_of bytes.now at }
+// The value of the bound that begins at a place of a range at `place`.
+fn bound<'a>(place: usize, start: Place<'a>) -> Word<'a>
+    requires { place + length start.src.now < 2 ^ 64 }
+    ensures place { result.place ≡ place + bound_from start.entry.src.now start.entry.at }
+    ensures bytes { result.bytes.now ≡ bound_of start.entry.src.now start.entry.at }
 {
-    let from = Place { src: bytes, at }.run(Class::Blank);
+    let from = start.run(Class::Blank);
     let to = from.value().unwrap_or(from);
     Word {
         place: place + from.at,
-        bytes: &bytes[from.at..to.at],
+        bytes: &from.src[from.at..to.at],
     }
-}
-
-fn second(bytes: &[u8]) -> usize
-    requires { 1 ≤ length bytes.now }
-    ensures { result ≡ second bytes.now }
-{
-    let start = Place { src: bytes, at: 1 };
-    let n = start.bound().map_or(0, |end| end.at - 1);
-    bytes.len().min(n + 3)
 }
 
 fn range_of(place: usize, bytes: &[u8]) -> Token<'_>
@@ -82,9 +72,13 @@ fn range_of(place: usize, bytes: &[u8]) -> Token<'_>
     if !fits(place, bytes) {
         return Token::Nil;
     }
-    let first = bound(place, bytes, 1);
-    let other = bound(place, bytes, second(bytes));
-    Token::Range(first, other)
+    let first = Place { src: bytes, at: 1 };
+    let dots = first.bound().unwrap_or(first);
+    let second = Place {
+        src: bytes,
+        at: bytes.len().min(dots.at + 2),
+    };
+    Token::Range(bound(place, first), bound(place, second))
 }
 
 fn plain_of<'a>(number: Option<i64>, symbol: Option<Symbol>) -> Token<'a>

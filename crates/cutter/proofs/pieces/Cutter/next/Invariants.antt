@@ -6,4 +6,4 @@ abbrev pub invariant-loop-b : goal.invariant-loop-b
 invariant-loop-b l = left l.self ≡ left l.initial.self
 
 abbrev pub decreases-loop-b : goal.decreases-loop-b
-decreases-loop-b l = length l.self.src.now - l.self.at
+decreases-loop-b l = length l.self.rest.src.now - l.self.rest.at

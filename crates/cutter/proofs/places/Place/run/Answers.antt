@@ -6,7 +6,7 @@ use Rattle.std.proofs.lemmas.List.{take_rest}
 use Rattle.std.proofs.lemmas.List.Folds.{length-prefix_len}
 use Rattle.cutter.specs.Lengths.{has, run_at}
 use Rattle.cutter.proofs.Runs.{run_is}
-use Rattle.cutter.proofs.lengths.Place.run.Goals as goal
+use Rattle.cutter.proofs.places.Place.run.Goals as goal
 
 pub returns : goal.returns
 unfolding run_at
