@@ -6,7 +6,7 @@ use Rattle.cutter.specs.Left.{slice}
 use Rattle.cutter.specs.Lengths.{is_blank, run, run_at, token_length}
 use Rattle.cutter.specs.declared.lengths.Class.TheVariants.{Blank}
 use Rattle.cutter.specs.Words.{Words, over, words_from, all_blank, Fills, TokensFill, TokensFillFrom}
-use Rattle.cutter.proofs.Filled.{start, ends, no_token, token}
+use Rattle.cutter.proofs.Filled.{ends, over_there, no_token, token}
 use Rattle.cutter.proofs.Parts.{run_short}
 
 blank_run : (bs : List ℕ) → all_blank (take (run Blank bs) bs) ≡ true
@@ -57,17 +57,20 @@ module _ (src : List ℕ) where
 
   fills : (fuel at : ℕ) → length src ≤ at + fuel → Fills at (drop at src) (words_from src at)
   fills zero at h = subst (λ (w : Words). Fills at (drop at src) w) (sym (ends src at (omega arith))) (ap all_blank (drop_all at src (omega arith)))
-  fills (suc fuel) at h = go (cases_lt (at + run_at Blank src at) (length src)) (token_length src (at + run_at Blank src at)) refl (λ p l. fills fuel p l)
+  fills (suc fuel) at h = go (cases_lt p (length src)) (cases_lt 0 (token_length src p)) (λ p l. fills fuel p l)
     where
-      go : (at + run_at Blank src at < length src) ⊎ (length src ≤ at + run_at Blank src at) → (n : ℕ) → n ≡ token_length src (at + run_at Blank src at) → ((p : ℕ) → length src ≤ p + fuel → Fills p (drop p src) (words_from src p)) → Fills at (drop at src) (words_from src at)
-      go (inr l) n e ih = subst (λ (w : Words). Fills at (drop at src) w) (sym (start src at (run_at Blank src at) refl ∙ ends src (at + run_at Blank src at) l)) (over_fills at l)
-      go (inl l) zero e ih =
-          subst (λ (w : Words). Fills at (drop at src) w) (sym (no_token src at (run_at Blank src at) refl zero l e refl))
-          (gap at, drop (at + run_at Blank src at) src, gap_joins at, gap_blank at, ap (λ n. at + n) (sym (gap_length at)))
-      go (inl l) (suc n) e ih =
-          let p = at + run_at Blank src at in
-          subst (λ (w : Words). Fills at (drop at src) w) (sym (token src at (run_at Blank src at) refl (suc n) l e (λ z. omega arith)))
-          (gap at, drop (p + suc n) src, gap_joins at ∙ ap (λ l. gap at ++ l) (token_joins p (suc n)), gap_blank at, ap (λ n. at + n) (sym (gap_length at)), omega (arith, token_length_lem p (suc n)), behind_fills p (suc n) (ih (p + suc n) (omega arith)))
+      p : ℕ
+      p = at + run_at Blank src at
+
+      go : (p < length src) ⊎ (length src ≤ p) → (0 < token_length src p) ⊎ (token_length src p ≤ 0) → ((p : ℕ) → length src ≤ p + fuel → Fills p (drop p src) (words_from src p)) → Fills at (drop at src) (words_from src at)
+      go (inr l) t ih = subst (λ (w : Words). Fills at (drop at src) w) (sym (over_there src at p refl l)) (over_fills at l)
+      go (inl l) (inr t) ih =
+          subst (λ (w : Words). Fills at (drop at src) w) (sym (no_token src at p refl l (omega arith)))
+          (gap at, drop p src, gap_joins at, gap_blank at, ap (λ n. at + n) (sym (gap_length at)))
+      go (inl l) (inl t) ih =
+          let n = token_length src p in
+          subst (λ (w : Words). Fills at (drop at src) w) (sym (token src at p refl l t))
+          (gap at, drop (p + n) src, gap_joins at ∙ ap (λ l. gap at ++ l) (token_joins p n), gap_blank at, ap (λ n. at + n) (sym (gap_length at)), omega (arith, token_length_lem p n), behind_fills p n (ih (p + n) (omega arith)))
 
 pub tokens_fill_from : TokensFillFrom
 tokens_fill_from src at = fills src (length src) at (omega arith)

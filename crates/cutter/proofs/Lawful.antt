@@ -5,7 +5,7 @@ use Rattle.cutter.specs.declared.state.Kind.{Kind}
 use Rattle.cutter.specs.declared.state.Kind.TheVariants.{Tag, Output}
 use Rattle.cutter.specs.Cuts.{Cut, done, unclosed, text, mark, opening, closing, Opens, Closes, IsText, IsMark, Cuts}
 use Rattle.cutter.specs.Laws.{RightCut, OnlyCut, RightCutAt, OnlyCutAt, Whole, written, Joins, JoinsAt, Tidy, TidyPieces, TidyPiecesAt}
-use Rattle.cutter.specs.Scan.{cut, cut_at}
+use Rattle.cutter.specs.Scan.{cut_at}
 use Rattle.cutter.proofs.Only as unique
 use Rattle.cutter.proofs.Right as scanned
 

@@ -1,8 +1,9 @@
 -- The texts of a token's reading are parts of the token as written.
-use Rattle.std.proofs.Common.{◌≡◌, ℕ, zero, suc, ◌+◌, ◌-◌, ◌^◌, ◌<◌, ◌≤◌, Bool, true, false, cond, ltb, List, [], ◌∷◌, length, get_or, take, drop, ℤ, Some, None, codes, Option, sym, refl, ap, ◌∙◌, arith}
+use Rattle.std.proofs.Common.{◌≡◌, ℕ, zero, suc, ◌+◌, ◌-◌, ◌^◌, ◌<◌, ◌≤◌, ltb, List, [], ◌∷◌, length, get_or, take, drop, ℤ, Some, None, codes, Option, sym, refl, ap, ◌∙◌, arith}
 use Rattle.std.specs.Str.{bytes_eq}
 use Rattle.std.proofs.lemmas.List.{take-append-drop, length-take, length-drop}
-use Rattle.std.proofs.lemmas.Bool.{cond-true, cond-false, cond_both}
+use Rattle.std.proofs.lemmas.List.Sums.{prefix_len-le-length}
+use Rattle.std.proofs.lemmas.Bool.{cond_both}
 use Rattle.numerals.specs.Decimal.{whole_of}
 use Rattle.cutter.specs.Left.{slice}
 use Rattle.cutter.specs.Lengths.{has, stands, run, run_at, name_length, symbol_of}
@@ -10,28 +11,10 @@ use Rattle.cutter.specs.Tokens.{is_nil, is_text, is_path, word_of, name_of, boun
 use Rattle.cutter.specs.declared.lengths.Symbol.{Symbol}
 use Rattle.cutter.specs.declared.lengths.Class.{Class}
 use Rattle.cutter.specs.declared.lengths.Class.TheVariants.{Blank, Initial, Quote, Is}
-use Rattle.cutter.proofs.Runs.{stands_within}
-
--- one of several, by the first test that holds
-pub take_first : {X : Type 0} (a : Bool) (x y : X) → true ≡ a → x ≡ cond a x y
-take_first a x y e = sym (cond-true a x y (sym e))
-
-pub take_second : {X : Type 0} (a b : Bool) (x y z : X) → false ≡ a → true ≡ b → y ≡ cond a x (cond b y z)
-take_second a b x y z e f = sym (cond-false a x (cond b y z) (sym e) ∙ cond-true b y z (sym f))
-
-pub take_third : {X : Type 0} (a b c : Bool) (x y z w : X) → false ≡ a → false ≡ b → true ≡ c → z ≡ cond a x (cond b y (cond c z w))
-take_third a b c x y z w e f g = sym (cond-false a x _ (sym e) ∙ cond-false b y _ (sym f) ∙ cond-true c z w (sym g))
-
-pub take_last : {X : Type 0} (a b c : Bool) (x y z w : X) → false ≡ a → false ≡ b → false ≡ c → w ≡ cond a x (cond b y (cond c z w))
-take_last a b c x y z w e f g = sym (cond-false a x _ (sym e) ∙ cond-false b y _ (sym f) ∙ cond-false c z w (sym g))
+use Rattle.cutter.proofs.Runs.{stands_within, run_is}
 
 pub run_short : (c : Class) (bs : List ℕ) → run c bs ≤ length bs
-run_short c [] = omega arith
-run_short c (b ∷ bs) = go (has c b) (run_short c bs)
-  where
-    go : (t : Bool) → run c bs ≤ length bs → cond t (1 + run c bs) 0 ≤ length (b ∷ bs)
-    go true ih = omega arith
-    go false ih = omega arith
+run_short c bs = omega (arith, run_is c bs, prefix_len-le-length (has c) bs)
 
 pub runs_within : (c : Class) (bs : List ℕ) (at : ℕ) → at ≤ length bs → at + run_at c bs at ≤ length bs
 unfolding run_at

@@ -6,7 +6,7 @@ use Rattle.cutter.specs.Left.{slice}
 use Rattle.cutter.specs.Lengths.{run_at, token_length}
 use Rattle.cutter.specs.declared.lengths.Class.TheVariants.{Blank}
 use Rattle.cutter.specs.Words.{words_from, Standing, Stand, TokensStand}
-use Rattle.cutter.proofs.Filled.{start, ends, no_token, token}
+use Rattle.cutter.proofs.Filled.{ends, over_there, no_token, token}
 use Rattle.cutter.proofs.Parts.{front_is}
 
 module _ (src : List ℕ) where
@@ -26,15 +26,18 @@ module _ (src : List ℕ) where
 
   stand : (fuel at : ℕ) → length src ≤ at + fuel → Stand src at (words_from src at)
   stand zero at h = subst (Stand src at) (sym (ends src at (omega arith))) tt
-  stand (suc fuel) at h = go (cases_lt (at + run_at Blank src at) (length src)) (token_length src (at + run_at Blank src at)) refl (λ p l. stand fuel p l)
+  stand (suc fuel) at h = go (cases_lt p (length src)) (cases_lt 0 (token_length src p)) (λ p l. stand fuel p l)
     where
-      go : (at + run_at Blank src at < length src) ⊎ (length src ≤ at + run_at Blank src at) → (n : ℕ) → n ≡ token_length src (at + run_at Blank src at) → ((p : ℕ) → length src ≤ p + fuel → Stand src p (words_from src p)) → Stand src at (words_from src at)
-      go (inr l) n e ih = subst (Stand src at) (sym (start src at (run_at Blank src at) refl ∙ ends src (at + run_at Blank src at) l)) tt
-      go (inl l) zero e ih = subst (Stand src at) (sym (no_token src at (run_at Blank src at) refl zero l e refl)) (omega arith, l)
-      go (inl l) (suc n) e ih =
-          let p = at + run_at Blank src at in
-          subst (Stand src at) (sym (token src at (run_at Blank src at) refl (suc n) l e (λ z. omega arith)))
-          (standing at p (suc n) (omega arith) l, behind p (suc n) (ih (p + suc n) (omega arith)))
+      p : ℕ
+      p = at + run_at Blank src at
+
+      go : (p < length src) ⊎ (length src ≤ p) → (0 < token_length src p) ⊎ (token_length src p ≤ 0) → ((p : ℕ) → length src ≤ p + fuel → Stand src p (words_from src p)) → Stand src at (words_from src at)
+      go (inr l) t ih = subst (Stand src at) (sym (over_there src at p refl l)) tt
+      go (inl l) (inr t) ih = subst (Stand src at) (sym (no_token src at p refl l (omega arith))) (omega arith, l)
+      go (inl l) (inl t) ih =
+          let n = token_length src p in
+          subst (Stand src at) (sym (token src at p refl l t))
+          (standing at p n (omega arith) l, behind p n (ih (p + n) (omega arith)))
 
 pub tokens_stand : TokensStand
 tokens_stand src at = stand src (length src) at (omega arith)

@@ -1,9 +1,8 @@
 -- One byte of the cutter, and the end.
-use Rattle.std.proofs.Common.{◌≡◌, ℕ, ◌+◌, ◌-◌, ◌<◌, ◌≤◌, min, true, ◌⊎◌, List, [], ◌∷◌, ◌++◌, length, get_or, take, drop, sym, refl, ap, ◌∙◌, inl, inr, ⊎_elim, arith, rules}
-use Rattle.std.proofs.lemmas.List.{at_drop_more, at_drop_all, take-take, length-take-le, length-drop, take_more, get_or-drop, drop-take, drop-drop, drop_all}
-use Rattle.std.proofs.lemmas.Bool.{cases_lt}
-use Rattle.cutter.specs.Cuts.{Cut, done, unclosed, text, mark}
-use Rattle.cutter.specs.Scan.{stepped, brings, scan, ended, some_text, all_but_last, last_of, placed}
+use Rattle.std.proofs.Common.{◌≡◌, ℕ, ◌+◌, ◌-◌, ◌<◌, ◌≤◌, true, List, [], ◌∷◌, ◌++◌, length, get_or, take, drop, sym, refl, ap, ◌∙◌, arith, rules}
+use Rattle.std.proofs.lemmas.List.{at_drop_more, take-take, length-take-le, length-drop, take_more, get_or-drop, drop-take, drop-drop}
+use Rattle.cutter.specs.Cuts.{Cut, text, mark}
+use Rattle.cutter.specs.Scan.{stepped, brings, scan, some_text, all_but_last, last_of, placed}
 use Rattle.cutter.specs.Left.{slice}
 use Rattle.cutter.specs.declared.state.Kind.{Kind}
 use Rattle.cutter.specs.declared.state.State.{State}
@@ -12,10 +11,10 @@ use Rattle.cutter.specs.declared.state.Event.{Event}
 use Rattle.cutter.specs.declared.state.Event.TheVariants.{Goes, Opens, Closes}
 
 -- slices
-pub slice_length : (src : List ℕ) (i j : ℕ) → i ≤ j → j ≤ length src → length (slice src i j) ≡ j - i
+slice_length : (src : List ℕ) (i j : ℕ) → i ≤ j → j ≤ length src → length (slice src i j) ≡ j - i
 slice_length src i j h l = length-take-le (j - i) (drop i src) (omega (arith, length-drop i src))
 
-pub slice_none : (src : List ℕ) (i j : ℕ) → j ≤ i → slice src i j ≡ []
+slice_none : (src : List ℕ) (i j : ℕ) → j ≤ i → slice src i j ≡ []
 slice_none src i j h = ap (λ n. take n (drop i src)) (let e : j - i ≡ 0 = omega arith in e)
 
 slice_more : (src : List ℕ) (i j : ℕ) → i ≤ j → j < length src → slice src i j ++ (get_or src j 0 ∷ []) ≡ slice src i (j + 1)
@@ -51,100 +50,53 @@ text_some : (at : ℕ) (t : List ℕ) (rest : Cut) → 0 < length t → some_tex
 text_some at [] rest h = absurd (omega arith)
 text_some at (b ∷ bs) rest h = refl
 
-text_none : (at : ℕ) (t : List ℕ) (rest : Cut) → t ≡ [] → some_text at t rest ≡ rest
-text_none at t rest e = ap (λ t. some_text at t rest) e
-
 abbrev pub left_at : List ℕ → State → ℕ → ℕ → Cut
 left_at src s start at = scan s start (slice src start at) (drop at src)
 
-module _ {src l : List ℕ} (same : l ≡ src) (s : State) (start at : ℕ) where
-  there : left_at l s start at ≡ left_at src s start at
-  there = ap (λ l. left_at l s start at) same
-
-  one_byte : (s' : State) (e : Event) → at < length src → ◌≡◌ {A = State × Event} (s', e) (stepped s (get_or src at 0)) → left_at src s start at ≡ brings start (slice src start at) (get_or src at 0) e (λ place first. scan s' place first (drop (at + 1) src))
-  one_byte s' e h eq =
-      at_drop_more (scan s start (slice src start at)) src at 0 h
-      ∙ ap (λ (p : State × Event). brings start (slice src start at) (get_or src at 0) p.1 (λ place first. scan p.0 place first (drop (at + 1) src))) (sym eq)
-
-  module _ (s' : State) (h : at < length src) where
-    pub goes : start ≤ at → ◌≡◌ {A = State × Event} (s', Goes) (stepped s (get_or src at 0)) → left_at l s start at ≡ left_at l s' start (at + 1)
-    goes p eq =
-        there ∙ one_byte s' Goes h eq ∙ ap (λ got. scan s' start got (drop (at + 1) src)) (slice_more src start at p h)
-        ∙ sym (ap (λ l. left_at l s' start (at + 1)) same)
-
-    opens : start < at → ◌≡◌ {A = State × Event} (s', Opens) (stepped s (get_or src at 0)) → left_at l s start at ≡ some_text start (slice src start (at - 1)) (left_at l s' (at - 1) (at + 1))
-    opens p eq =
-        let but = but_last src start at (omega arith) (omega arith) in
-        let place : start + length (all_but_last (slice src start at)) ≡ at - 1 = omega (arith, ap length but, slice_length src start (at - 1) (omega arith) (omega arith)) in
-        let first = ap (λ got. got ++ (get_or src at 0 ∷ [])) (last_one src start at p (omega arith)) ∙ slice_more src (at - 1) at (omega arith) h in
-        there ∙ one_byte s' Opens h eq
-        ∙ ap (λ t. some_text start t (scan s' (start + length (all_but_last (slice src start at))) (last_of (slice src start at) ++ (get_or src at 0 ∷ [])) (drop (at + 1) src))) but
-        ∙ ap (λ n. some_text start (slice src start (at - 1)) (scan s' n (last_of (slice src start at) ++ (get_or src at 0 ∷ [])) (drop (at + 1) src))) place
-        ∙ ap (λ got. some_text start (slice src start (at - 1)) (scan s' (at - 1) got (drop (at + 1) src))) first
-        ∙ sym (ap (λ l. some_text start (slice src start (at - 1)) (left_at l s' (at - 1) (at + 1))) same)
-
-    pub opens_text : start < at - 1 → ◌≡◌ {A = State × Event} (s', Opens) (stepped s (get_or src at 0)) → left_at l s start at ≡ text start (slice src start (at - 1)) (left_at l s' (at - 1) (at + 1))
-    opens_text p eq =
-        opens (omega arith) eq
-        ∙ text_some start (slice src start (at - 1)) _ (omega (arith, slice_length src start (at - 1) (omega arith) (omega arith)))
-
-    pub opens_none : start < at → at - 1 ≤ start → ◌≡◌ {A = State × Event} (s', Opens) (stepped s (get_or src at 0)) → left_at l s start at ≡ left_at l s' (at - 1) (at + 1)
-    opens_none p q eq = opens p eq ∙ text_none start (slice src start (at - 1)) _ (slice_none src start (at - 1) q)
-
-    pub closes : (k : Kind) → start + 2 < at → ◌≡◌ {A = State × Event} (s', Closes k) (stepped s (get_or src at 0)) → left_at l s start at ≡ mark k start (slice src (start + 2) (at - 1)) (left_at l s' (at + 1) (at + 1))
-    closes k p eq =
-        let inside = ap (drop 2) (but_last src start at (omega arith) (omega arith)) ∙ drop_2 src start (at - 1) (omega arith) in
-        let place : start + (length (slice src start at) + 1) ≡ at + 1 = omega (arith, slice_length src start at (omega arith) (omega arith)) in
-        there ∙ one_byte s' (Closes k) h eq
-        ∙ ap (λ i. mark k start i (scan s' (start + (length (slice src start at) + 1)) [] (drop (at + 1) src))) inside
-        ∙ ap (λ n. mark k start (slice src (start + 2) (at - 1)) (scan s' n [] (drop (at + 1) src))) place
-        ∙ ap (λ got. mark k start (slice src (start + 2) (at - 1)) (scan s' (at + 1) got (drop (at + 1) src))) (sym (slice_none src (at + 1) (at + 1) (omega arith)))
-        ∙ sym (ap (λ l. mark k start (slice src (start + 2) (at - 1)) (left_at l s' (at + 1) (at + 1))) same)
-
-  no_byte : length src ≤ at → left_at l s start at ≡ ended s start (slice src start at)
-  no_byte h = there ∙ at_drop_all (scan s start (slice src start at)) src at h
-
-  pub ends : length src ≤ at → at ≤ start → (s ≡ Text) ⊎ (s ≡ Brace) → left_at l s start at ≡ done
-  ends h p is =
-      no_byte h ∙ ⊎_elim (λ e. ap (λ s. ended s start (slice src start at)) e) (λ e. ap (λ s. ended s start (slice src start at)) e) is
-      ∙ text_none start (slice src start at) done (slice_none src start at p)
-
-  pub breaks : length src ≤ at → (s ≡ Text → ⊥) → (s ≡ Brace → ⊥) → left_at l s start at ≡ unclosed start
-  breaks h p q = no_byte h ∙ broken s p q
-    where
-      broken : (s : State) → (s ≡ Text → ⊥) → (s ≡ Brace → ⊥) → ended s start (slice src start at) ≡ unclosed start
-      broken Text p q = absurd (p refl)
-      broken Brace p q = absurd (q refl)
-      broken (Inside k) p q = refl
-      broken (Closing k) p q = refl
-      broken (Quoted k b) p q = refl
-
--- the last text, after which nothing is left
-pub last_text : {src l : List ℕ} → l ≡ src → (s : State) (start at : ℕ) → at ≤ length src → length src ≤ at → start < at → (s ≡ Text) ⊎ (s ≡ Brace) → left_at l s start at ≡ text start (slice src start at) (left_at l Text at at)
-last_text {src} {l} same s start at w h lt is =
-    no_byte same s start at h ∙ ⊎_elim (λ e. ap (λ s. ended s start (slice src start at)) e) (λ e. ap (λ s. ended s start (slice src start at)) e) is
-    ∙ text_some start (slice src start at) done (omega (arith, slice_length src start at (omega arith) w))
-    ∙ ap (text start (slice src start at)) (sym (ends same Text at at h (omega arith) (inl refl)))
-
 -- which states an event comes from
-pub from_goes : (s : State) (start at : ℕ) → placed s start at ≡ true → start ≤ at
+from_goes : (s : State) (start at : ℕ) → placed s start at ≡ true → start ≤ at
 from_goes Text start at p = search rules
 from_goes Brace start at p = search rules
 from_goes (Inside k) start at p = search rules
 from_goes (Closing k) start at p = search rules
 from_goes (Quoted k q) start at p = search rules
 
-pub from_opens : (s s' : State) (b start at : ℕ) → placed s start at ≡ true → ◌≡◌ {A = State × Event} (s', Opens) (stepped s b) → start < at
+from_opens : (s s' : State) (b start at : ℕ) → placed s start at ≡ true → ◌≡◌ {A = State × Event} (s', Opens) (stepped s b) → start < at
 from_opens s s' b start at p eq = search rules
 
-pub from_closes : (s s' : State) (k : Kind) (b start at : ℕ) → placed s start at ≡ true → ◌≡◌ {A = State × Event} (s', Closes k) (stepped s b) → start + 2 < at
+from_closes : (s s' : State) (k : Kind) (b start at : ℕ) → placed s start at ≡ true → ◌≡◌ {A = State × Event} (s', Closes k) (stepped s b) → start + 2 < at
 from_closes s s' k b start at p eq = search rules
 
--- a place behind the end has nothing to cut, as the end has
-pub starts : (src : List ℕ) (place from : ℕ) → from ≡ min place (length src) → left_at src Text from from ≡ scan Text place [] (drop place src)
-starts src place from e =
-    ap (λ got. scan Text from got (drop from src)) (slice_none src from from (omega arith)) ∙ go (cases_lt place (length src))
-  where
-    go : (place < length src) ⊎ (length src ≤ place) → scan Text from [] (drop from src) ≡ scan Text place [] (drop place src)
-    go (inl h) = ap (λ n. scan Text n [] (drop n src)) (let f : from ≡ place = omega arith in f)
-    go (inr h) = ap (λ l. scan Text from [] l) (drop_all from src (omega arith)) ∙ sym (ap (λ l. scan Text place [] l) (drop_all place src h))
+-- one byte on
+module _ (src : List ℕ) (s s' : State) (start at b : ℕ) (is : placed s start at ≡ true) (h : at < length src) (byte : b ≡ get_or src at 0) where
+  one_byte : (e : Event) → ◌≡◌ {A = State × Event} (s', e) (stepped s b) → left_at src s start at ≡ brings start (slice src start at) (get_or src at 0) e (λ place first. scan s' place first (drop (at + 1) src))
+  one_byte e eq =
+      at_drop_more (scan s start (slice src start at)) src at 0 h
+      ∙ ap (λ (p : State × Event). brings start (slice src start at) (get_or src at 0) p.1 (λ place first. scan p.0 place first (drop (at + 1) src))) (sym (eq ∙ ap (stepped s) byte))
+
+  pub goes : ◌≡◌ {A = State × Event} (s', Goes) (stepped s b) → left_at src s start at ≡ left_at src s' start (at + 1)
+  goes eq = one_byte Goes eq ∙ ap (λ got. scan s' start got (drop (at + 1) src)) (slice_more src start at (from_goes s start at is) h)
+
+  opens : ◌≡◌ {A = State × Event} (s', Opens) (stepped s b) → left_at src s start at ≡ some_text start (slice src start (at - 1)) (left_at src s' (at - 1) (at + 1))
+  opens eq =
+      let p = from_opens s s' b start at is eq in
+      let but = but_last src start at (omega arith) (omega arith) in
+      let place : start + length (all_but_last (slice src start at)) ≡ at - 1 = omega (arith, ap length but, slice_length src start (at - 1) (omega arith) (omega arith)) in
+      let first = ap (λ got. got ++ (get_or src at 0 ∷ [])) (last_one src start at p (omega arith)) ∙ slice_more src (at - 1) at (omega arith) h in
+      one_byte Opens eq
+      ∙ ap (λ t. some_text start t (scan s' (start + length (all_but_last (slice src start at))) (last_of (slice src start at) ++ (get_or src at 0 ∷ [])) (drop (at + 1) src))) but
+      ∙ ap (λ n. some_text start (slice src start (at - 1)) (scan s' n (last_of (slice src start at) ++ (get_or src at 0 ∷ [])) (drop (at + 1) src))) place
+      ∙ ap (λ got. some_text start (slice src start (at - 1)) (scan s' (at - 1) got (drop (at + 1) src))) first
+
+  pub opens_text : start < at - 1 → ◌≡◌ {A = State × Event} (s', Opens) (stepped s b) → left_at src s start at ≡ text start (slice src start (at - 1)) (left_at src s' (at - 1) (at + 1))
+  opens_text p eq = opens eq ∙ text_some start (slice src start (at - 1)) _ (omega (arith, slice_length src start (at - 1) (omega arith) (omega arith)))
+
+  pub closes : (k : Kind) → ◌≡◌ {A = State × Event} (s', Closes k) (stepped s b) → left_at src s start at ≡ mark k start (slice src (start + 2) (at - 1)) (left_at src s' (at + 1) (at + 1))
+  closes k eq =
+      let p = from_closes s s' k b start at is eq in
+      let inside = ap (drop 2) (but_last src start at (omega arith) (omega arith)) ∙ drop_2 src start (at - 1) (omega arith) in
+      let place : start + (length (slice src start at) + 1) ≡ at + 1 = omega (arith, slice_length src start at (omega arith) (omega arith)) in
+      one_byte (Closes k) eq
+      ∙ ap (λ i. mark k start i (scan s' (start + (length (slice src start at) + 1)) [] (drop (at + 1) src))) inside
+      ∙ ap (λ n. mark k start (slice src (start + 2) (at - 1)) (scan s' n [] (drop (at + 1) src))) place
+      ∙ ap (λ got. mark k start (slice src (start + 2) (at - 1)) (scan s' (at + 1) got (drop (at + 1) src))) (sym (slice_none src (at + 1) (at + 1) (omega arith)))

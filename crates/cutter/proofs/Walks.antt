@@ -18,24 +18,23 @@ skip place bs at (suc k) (x ∷ xs) =
     let f : at + 1 + k ≡ at + suc k = omega arith in
     skip place bs (at + 1) k xs ∙ ap (λ n. stepping place bs n 0 (drop k xs)) f
 
-module _ (place : ℕ) (bs : List ℕ) (at n : ℕ) (is : n ≡ step_length bs at) where
-  pub no_step : n ≡ 0 → steps_from place bs at ≡ []
-  unfolding steps_from
-  no_step z = go (drop at bs)
-    where
-      go : (xs : List ℕ) → stepping place bs at 0 xs ≡ []
-      go [] = refl
-      go (x ∷ xs) = ap (λ k. step_begun place bs at k (λ rest. stepping place bs (at + 1) rest xs)) (sym is ∙ z)
+pub no_step : (place : ℕ) (bs : List ℕ) (at : ℕ) → step_length bs at ≡ 0 → steps_from place bs at ≡ []
+unfolding steps_from
+no_step place bs at z = go (drop at bs)
+  where
+    go : (xs : List ℕ) → stepping place bs at 0 xs ≡ []
+    go [] = refl
+    go (x ∷ xs) = ap (λ k. step_begun place bs at k (λ rest. stepping place bs (at + 1) rest xs)) z
 
 -- a step has two bytes and more
 abbrev Long : List ℕ → ℕ → ℕ → Type 0
-Long bs at n = (n ≡ 0 → ⊥) → (2 ≤ n) × (at + 2 ≤ length bs)
+Long bs at n = 0 < n → (2 ≤ n) × (at + 2 ≤ length bs)
 
-pub long_step : (bs : List ℕ) (at : ℕ) → Long bs at (step_length bs at)
+pub long_step : (bs : List ℕ) (at : ℕ) → 0 < step_length bs at → (2 ≤ step_length bs at) × (at + 2 ≤ length bs)
 unfolding step_length name_length
 long_step bs at =
     cond_both (stands (Is 46) bs at) _ _ (Long bs at) (λ _. dotted)
-    (λ _. cond_both (stands (Is 91) bs at) _ 0 (Long bs at) (λ _. between (key_length bs (at + 1))) (λ _ z. absurd (z refl)))
+    (λ _. cond_both (stands (Is 91) bs at) _ 0 (Long bs at) (λ _. between (key_length bs (at + 1))) (λ _ h. absurd (omega arith)))
   where
     behind : (m : ℕ) → 0 < m → at + 2 ≤ length bs → Long bs at (longer 1 m)
     behind zero h l z = absurd (omega arith)
@@ -44,22 +43,27 @@ long_step bs at =
     dotted : Long bs at (longer 1 (name_length bs (at + 1)))
     dotted =
         cond_both (stands Initial bs (at + 1)) (1 + run_at Named bs (at + 1 + 1)) 0 (λ m. Long bs at (longer 1 m))
-        (λ e. behind _ (omega arith) (omega (arith, stands_within Initial bs (at + 1) (sym e)))) (λ _ z. absurd (z refl))
+        (λ e. behind _ (omega arith) (omega (arith, stands_within Initial bs (at + 1) (sym e)))) (λ _ h. absurd (omega arith))
 
     between : (n : ℕ) → Long bs at (bracketed bs (at + 1) n)
     between n =
         cond_both (ltb 0 n && stands (Is 93) bs (at + 1 + n)) (n + 2) 0 (Long bs at)
-        (λ e _. let (some, end) = and_parts (ltb 0 n) (stands (Is 93) bs (at + 1 + n)) e in (omega arith, omega (arith, ltb-true 0 n some, stands_within (Is 93) bs (at + 1 + n) (sym end)))) (λ _ z. absurd (z refl))
+        (λ e _. let (some, end) = and_parts (ltb 0 n) (stands (Is 93) bs (at + 1 + n)) e in (omega arith, omega (arith, ltb-true 0 n some, stands_within (Is 93) bs (at + 1 + n) (sym end)))) (λ _ h. absurd (omega arith))
 
-pub one_step : (place : ℕ) (bs : List ℕ) (at n : ℕ) → n ≡ step_length bs at → (n ≡ 0 → ⊥) → steps_from place bs at ≡ step_of (place + at) (slice bs at (at + n)) ∷ steps_from place bs (at + n)
+pub one_step : (place : ℕ) (bs : List ℕ) (at : ℕ) → 0 < step_length bs at → steps_from place bs at ≡ step_of (place + at) (slice bs at (at + step_length bs at)) ∷ steps_from place bs (at + step_length bs at)
 unfolding steps_from
-one_step place bs at zero is z = absurd (z refl)
-one_step place bs at (suc n) is z =
-    let f : at + 1 + n ≡ at + suc n = omega arith in
-    let (_, room) = long_step bs at (λ e. z (is ∙ e)) in
-    at_drop_more (stepping place bs at 0) bs at 0 (omega arith)
-    ∙ ap (λ k. step_begun place bs at k (λ rest. stepping place bs (at + 1) rest (drop (at + 1) bs))) (sym is)
-    ∙ ap (λ l. step_of (place + at) (slice bs at (at + suc n)) ∷ l) (skip place bs (at + 1) n (drop (at + 1) bs) ∙ ap (λ l. stepping place bs (at + 1 + n) 0 l) (drop-drop n (at + 1) bs) ∙ ap (λ n. stepping place bs n 0 (drop n bs)) f)
+one_step place bs at h = go (step_length bs at) refl
+  where
+    room : at + 2 ≤ length bs
+    room = (long_step bs at h).1
+
+    go : (n : ℕ) → n ≡ step_length bs at → stepping place bs at 0 (drop at bs) ≡ step_of (place + at) (slice bs at (at + n)) ∷ stepping place bs (at + n) 0 (drop (at + n) bs)
+    go zero e = absurd (omega (arith, h, e))
+    go (suc n) e =
+        let f : at + 1 + n ≡ at + suc n = omega arith in
+        at_drop_more (stepping place bs at 0) bs at 0 (omega (arith, room))
+        ∙ ap (λ k. step_begun place bs at k (λ rest. stepping place bs (at + 1) rest (drop (at + 1) bs))) (sym e)
+        ∙ ap (λ l. step_of (place + at) (slice bs at (at + suc n)) ∷ l) (skip place bs (at + 1) n (drop (at + 1) bs) ∙ ap (λ l. stepping place bs (at + 1 + n) 0 l) (drop-drop n (at + 1) bs) ∙ ap (λ n. stepping place bs n 0 (drop n bs)) f)
 
 -- a part of a part
 part_of_part : {p q r : ℕ} {bs b c : List ℕ} → Part p bs q b → Part q b r c → Part p bs r c
@@ -104,20 +108,21 @@ step_inside p bs q s rest x h r =
     bracket None = (part_of_part x (inner_inner q s h), r)
 
 inside : (place : ℕ) (bs : List ℕ) (fuel at : ℕ) → length bs ≤ at + fuel → KeysInside place bs (steps_from place bs at)
-inside place bs zero at h = subst (KeysInside place bs) (sym (no_step place bs at (step_length bs at) refl (no_room (step_length bs at) refl))) tt
+inside place bs zero at h = go (cases_lt 0 (step_length bs at))
   where
-    no_room : (n : ℕ) → n ≡ step_length bs at → step_length bs at ≡ 0
-    no_room zero e = sym e
-    no_room (suc n) e = absurd (omega (arith, (long_step bs at (λ z. omega (arith, e))).1))
-inside place bs (suc fuel) at h = go (step_length bs at) refl (λ m l. inside place bs fuel m l)
+    go : (0 < step_length bs at) ⊎ (step_length bs at ≤ 0) → KeysInside place bs (steps_from place bs at)
+    go (inl l) = absurd (omega (arith, (long_step bs at l).1))
+    go (inr l) = subst (KeysInside place bs) (sym (no_step place bs at (omega arith))) tt
+inside place bs (suc fuel) at h = go (cases_lt 0 (step_length bs at)) (λ m l. inside place bs fuel m l)
   where
-    go : (n : ℕ) → n ≡ step_length bs at → ((m : ℕ) → length bs ≤ m + fuel → KeysInside place bs (steps_from place bs m)) → KeysInside place bs (steps_from place bs at)
-    go zero e ih = subst (KeysInside place bs) (sym (no_step place bs at zero e refl)) tt
-    go (suc n) e ih =
-        let (two, room) = long_step bs at (λ z. omega (arith, e)) in
-        subst (KeysInside place bs) (sym (one_step place bs at (suc n) e (λ z. omega arith)))
-        (step_inside place bs (place + at) (slice bs at (at + suc n)) (steps_from place bs (at + suc n)) (slice_part place bs at (at + suc n) (omega arith))
-        (omega (arith, length-take (at + suc n - at) (drop at bs), length-drop at bs, e)) (ih (at + suc n) (omega arith)))
+    go : (0 < step_length bs at) ⊎ (step_length bs at ≤ 0) → ((m : ℕ) → length bs ≤ m + fuel → KeysInside place bs (steps_from place bs m)) → KeysInside place bs (steps_from place bs at)
+    go (inr l) ih = subst (KeysInside place bs) (sym (no_step place bs at (omega arith))) tt
+    go (inl l) ih =
+        let n = step_length bs at in
+        let (two, room) = long_step bs at l in
+        subst (KeysInside place bs) (sym (one_step place bs at l))
+        (step_inside place bs (place + at) (slice bs at (at + n)) (steps_from place bs (at + n)) (slice_part place bs at (at + n) (omega arith))
+        (omega (arith, length-take (at + n - at) (drop at bs), length-drop at bs)) (ih (at + n) (omega arith)))
 
 pub keys_inside : KeysAreInside
 unfolding steps_of

@@ -6,7 +6,7 @@ use Rattle.cutter.specs.declared.tokens.Word.{Word}
 use Rattle.cutter.specs.declared.tokens.NoToken.{NoToken}
 
 abbrev pub ahead : Cursor → Words
-ahead c = words_from c.src.now c.at
+ahead c = words_from c.rest.src.now c.rest.at
 
 -- what `next` answers, by what was ahead before and what is ahead after
 abbrev pub Took : Words → Result (Option Word) NoToken → Words → Type 0

@@ -7,3 +7,4 @@ pub mod Words
 pub mod Ahead
 pub mod Tokens
 pub mod Paths
+pub mod Places

@@ -42,7 +42,7 @@ unfoldable pub steps_of : ℕ → List ℕ → List PlacedStep
 steps_of place bs = cond (nat_lt (place + length bs) (2 ^ 64)) (steps_from place bs 0) []
 
 abbrev pub steps_left : Steps → List PlacedStep
-steps_left s = steps_from s.place s.bytes.now s.at
+steps_left s = steps_from s.place s.rest.src.now s.rest.at
 
 abbrev pub placed_step : StepWord → PlacedStep
 placed_step (Index z) = at_index z

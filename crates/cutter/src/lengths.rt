@@ -1,13 +1,15 @@
-// How long the token is that begins at a place; 0 where none begins there.
-ghost use Rattle.std.specs.Prelude.{◌≡◌, ◌+◌, ◌<◌, ◌≤◌, min, length, slice_index};
-ghost use Rattle.std.specs.Str.{bytes_eq};
-ghost use Rattle.cutter.specs.Lengths.{has, stands, run_at, name_length, number_length, signed_length, text_length, key_length, bracketed, step_length, steps_length, is_literal, path_length, value_length, bound_length, dots_length, range_length, width, symbol_of, symbol_length, token_length};
+// Places in some bytes, and what begins there: names, numbers, texts, paths, ranges, symbols and tokens.
+ghost use Rattle.std.specs.Prelude.{◌≡◌, slice_index};
+ghost use Rattle.cutter.specs.Lengths.{has, stands, run_at, name_length, number_length, signed_length, text_length, key_length, step_length, steps_length, is_literal, path_length, value_length, bound_length, range_length, width, symbol_of, symbol_length, token_length};
+ghost use Rattle.cutter.specs.Places.{Past, Behind, one};
+ghost use Rattle.cutter.specs.declared.lengths.Class.TheVariants.{Is};
 
+use crate::places::Place;
 use numerals::read_whole;
 
 // The classes of bytes: blanks, digits, what a name begins with, what it goes on with, quotes, one byte, and all but one.
-#[derive(Clone, Copy)]
-pub enum Class {
+#[derive(Clone, Copy, Debug, PartialEq, Eq)]
+pub(crate) enum Class {
     Blank,
     Digit,
     Initial,
@@ -18,7 +20,7 @@ pub enum Class {
 }
 
 impl Class {
-    pub(crate) fn has(self, b: u8) -> bool
+    fn has(self, b: u8) -> bool
         ensures { result ≡ has self b }
     {
         match (self, b) {
@@ -34,239 +36,8 @@ impl Class {
     }
 }
 
-// Whether a byte of the class stands at `at`.
-pub(crate) fn stands(class: Class, src: &[u8], at: usize) -> bool
-    ensures { result ≡ stands class src.now at }
-{
-    if at < src.len() {
-        class.has(src[at])
-    } else {
-        false
-    }
-}
-
-// How many bytes of the class stand from `at` on.
-pub(crate) fn run(class: Class, src: &[u8], at: usize) -> usize
-    requires { at ≤ length src.now }
-    ensures is { result ≡ run_at class src.now at }
-    ensures within { at + result ≤ length src.now }
-{
-    let mut end = at;
-    while end < src.len() {
-        if !class.has(src[end]) {
-            return end - at;
-        }
-        end += 1;
-    }
-    end - at
-}
-
-// A place, or the end where it lies behind that.
-pub(crate) fn within(src: &[u8], place: usize) -> usize
-    ensures { result ≡ min place (length src.now) }
-{
-    if place < src.len() { place } else { src.len() }
-}
-
-pub(crate) fn name_length(src: &[u8], at: usize) -> usize
-    requires { at ≤ length src.now }
-    ensures is { result ≡ name_length src.now at }
-    ensures within { at + result ≤ length src.now }
-{
-    if stands(Class::Initial, src, at) {
-        1 + run(Class::Named, src, at + 1)
-    } else {
-        0
-    }
-}
-
-// An optional sign and the digits behind it.
-fn signed_length(src: &[u8], at: usize) -> usize
-    requires { at ≤ length src.now }
-    ensures is { result ≡ signed_length src.now at }
-    ensures within { at + result ≤ length src.now }
-{
-    if stands(Class::Is(b'-'), src, at) {
-        1 + run(Class::Digit, src, at + 1)
-    } else {
-        run(Class::Digit, src, at)
-    }
-}
-
-pub(crate) fn number_length(src: &[u8], at: usize) -> usize
-    requires { at ≤ length src.now }
-    ensures is { result ≡ number_length src.now at }
-    ensures within { at + result ≤ length src.now }
-{
-    let n = signed_length(src, at);
-    match read_whole(&src[at..at + n]) {
-        Some(_) => n,
-        None => 0,
-    }
-}
-
-pub(crate) fn text_length(src: &[u8], at: usize) -> usize
-    requires { at ≤ length src.now }
-    ensures is { result ≡ text_length src.now at }
-    ensures within { at + result ≤ length src.now }
-{
-    if !stands(Class::Quote, src, at) {
-        return 0;
-    }
-    let n = run(Class::Not(src[at]), src, at + 1);
-    if at + (1 + n) < src.len() { n + 2 } else { 0 }
-}
-
-fn key_length(src: &[u8], at: usize) -> usize
-    requires { at ≤ length src.now }
-    ensures is { result ≡ key_length src.now at }
-    ensures within { at + result ≤ length src.now }
-{
-    let n = number_length(src, at);
-    if n > 0 { n } else { text_length(src, at) }
-}
-
-// A key of the length `n` at `at`, with a bracket behind it.
-fn bracketed(src: &[u8], at: usize, n: usize) -> usize
-    requires { at + n ≤ length src.now }
-    ensures is { result ≡ bracketed src.now at n }
-    ensures within { at + result ≤ length src.now + 1 }
-{
-    if n > 0 && stands(Class::Is(b']'), src, at + n) {
-        n + 2
-    } else {
-        0
-    }
-}
-
-pub(crate) fn step_length(src: &[u8], at: usize) -> usize
-    requires { at ≤ length src.now }
-    ensures is { result ≡ step_length src.now at }
-    ensures within { at + result ≤ length src.now }
-{
-    if stands(Class::Is(b'.'), src, at) {
-        let n = name_length(src, at + 1);
-        return if n > 0 { 1 + n } else { 0 };
-    }
-    if stands(Class::Is(b'['), src, at) {
-        return bracketed(src, at + 1, key_length(src, at + 1));
-    }
-    0
-}
-
-// All the steps from `at` on.
-pub(crate) fn steps_length(src: &[u8], at: usize) -> usize
-    requires { at ≤ length src.now }
-    ensures is { result ≡ steps_length src.now at }
-    ensures within { at + result ≤ length src.now }
-{
-    let mut end = at;
-    let mut n = step_length(src, at);
-    while n > 0 {
-        end += n;
-        n = step_length(src, end);
-    }
-    end - at
-}
-
-pub(crate) fn is(word: &[u8], other: &[u8]) -> bool
-    ensures { result ≡ bytes_eq word.now other.now }
-{
-    word == other
-}
-
-fn is_literal(word: &[u8]) -> bool
-    ensures { result ≡ is_literal word.now }
-{
-    if is(word, b"nil") {
-        return true;
-    }
-    if is(word, b"true") {
-        return true;
-    }
-    is(word, b"false")
-}
-
-// A path, or a word that is a literal.
-pub(crate) fn path_length(src: &[u8], at: usize) -> usize
-    requires { at ≤ length src.now }
-    ensures is { result ≡ path_length src.now at }
-    ensures within { at + result ≤ length src.now }
-{
-    let n = name_length(src, at);
-    if n == 0 {
-        return 0;
-    }
-    if is_literal(&src[at..at + n]) {
-        return n;
-    }
-    n + steps_length(src, at + n)
-}
-
-pub(crate) fn value_length(src: &[u8], at: usize) -> usize
-    requires { at ≤ length src.now }
-    ensures is { result ≡ value_length src.now at }
-    ensures within { at + result ≤ length src.now }
-{
-    let n = path_length(src, at);
-    if n > 0 { n } else { key_length(src, at) }
-}
-
-// A value with the blanks around it.
-pub(crate) fn bound_length(src: &[u8], at: usize) -> usize
-    requires { at ≤ length src.now }
-    ensures is { result ≡ bound_length src.now at }
-    ensures within { at + result ≤ length src.now }
-{
-    let blanks = run(Class::Blank, src, at);
-    let n = value_length(src, at + blanks);
-    if n == 0 {
-        return 0;
-    }
-    blanks + n + run(Class::Blank, src, at + (blanks + n))
-}
-
-// `..` and the second bound, with the bracket behind it.
-fn dots_length(src: &[u8], at: usize) -> usize
-    requires { at ≤ length src.now }
-    ensures is { result ≡ dots_length src.now at }
-    ensures within { at + result ≤ length src.now }
-{
-    if !stands(Class::Is(b'.'), src, at) {
-        return 0;
-    }
-    if !stands(Class::Is(b'.'), src, at + 1) {
-        return 0;
-    }
-    let n = bound_length(src, at + 2);
-    if n == 0 {
-        return 0;
-    }
-    if stands(Class::Is(b')'), src, at + 2 + n) {
-        2 + (n + 1)
-    } else {
-        0
-    }
-}
-
-pub(crate) fn range_length(src: &[u8], at: usize) -> usize
-    requires { at ≤ length src.now }
-    ensures is { result ≡ range_length src.now at }
-    ensures within { at + result ≤ length src.now }
-{
-    if !stands(Class::Is(b'('), src, at) {
-        return 0;
-    }
-    let n = bound_length(src, at + 1);
-    if n == 0 {
-        return 0;
-    }
-    let m = dots_length(src, at + 1 + n);
-    if m == 0 { 0 } else { 1 + (n + m) }
-}
-
 /// `==`; `!=` and `<>`; `<=`; `>=`; `<`; `>`; `:`; `,`; `=`; `|`.
-#[derive(Clone, Copy)]
+#[derive(Clone, Copy, Debug, PartialEq, Eq)]
 pub enum Symbol {
     Same,
     Differs,
@@ -291,56 +62,201 @@ impl Symbol {
     }
 }
 
-// The symbol that two bytes begin with.
-pub(crate) fn symbol_of(a: u8, b: u8) -> Option<Symbol>
-    ensures { result ≡ symbol_of a b }
+// Each method but `stands` answers a place: behind what it is named after, which begins here; `None` where none begins.
+impl<'a> Place<'a> {
+    // Whether a byte of the class stands here.
+    pub(crate) fn stands(self, class: Class) -> bool
+        ensures { result ≡ stands class self.entry.src.now self.entry.at }
+    {
+        self.src.get(self.at).is_some_and(|b| class.has(*b))
+    }
+
+    // A byte of the class.
+    fn one(self, class: Class) -> Option<Self>
+        ensures { Behind (one class) self.entry result }
+    {
+        if self.stands(class) {
+            Some(Place {
+                src: self.src,
+                at: self.at + 1,
+            })
+        } else {
+            None
+        }
+    }
+
+    // This byte.
+    fn skip(self, byte: u8) -> Option<Self>
+        ensures { Behind (one (Is byte)) self.entry result }
+    {
+        self.one(Class::Is(byte))
+    }
+
+    // All the bytes of the class, which may be none.
+    pub(crate) fn run(self, class: Class) -> Self
+        ensures { Past (run_at class) self.entry result }
+    {
+        let rest = &self.src[self.at..];
+        let n = rest.iter().take_while(|b| class.has(**b)).count();
+        Place {
+            src: self.src,
+            at: self.at + n,
+        }
+    }
+
+    #[tactic(auto, unfolding(crate::specs::Lengths::name_length))]
+    pub(crate) fn name(self) -> Option<Self>
+        ensures { Behind name_length self.entry result }
+    {
+        Some(self.one(Class::Initial)?.run(Class::Named))
+    }
+
+    // An optional sign and the digits.
+    #[tactic(auto, unfolding(crate::specs::Lengths::signed_length))]
+    fn signed(self) -> Self
+        ensures { Past signed_length self.entry result }
+    {
+        self.skip(b'-').unwrap_or(self).run(Class::Digit)
+    }
+
+    #[tactic(auto, using(crate::proofs::Runs::number_some, crate::proofs::Runs::number_none))]
+    fn number(self) -> Option<Self>
+        ensures { Behind number_length self.entry result }
+    {
+        let end = self.signed();
+        read_whole(&self.src[self.at..end.at])?;
+        Some(end)
+    }
+
+    // Up to the quote that opened it.
+    #[tactic(auto, using(crate::proofs::Runs::text_end), unfolding(crate::specs::Lengths::text_length))]
+    fn text(self) -> Option<Self>
+        ensures { Behind text_length self.entry result }
+    {
+        let quote = *self.src.get(self.at)?;
+        self.one(Class::Quote)?.run(Class::Not(quote)).skip(quote)
+    }
+
+    #[tactic(auto, unfolding(crate::specs::Lengths::key_length))]
+    fn key(self) -> Option<Self>
+        ensures { Behind key_length self.entry result }
+    {
+        match self.number() {
+            None => self.text(),
+            end => end,
+        }
+    }
+
+    #[tactic(auto, unfolding(crate::specs::Lengths::step_length))]
+    pub(crate) fn step(self) -> Option<Self>
+        ensures { Behind step_length self.entry result }
+    {
+        match self.skip(b'.') {
+            Some(name) => name.name(),
+            None => self.skip(b'[')?.key()?.skip(b']'),
+        }
+    }
+
+    // All the steps.
+    #[tactic(auto, using(crate::proofs::Runs::steps_more, crate::proofs::Runs::steps_none))]
+    fn steps(self) -> Self
+        ensures { Past steps_length self.entry result }
+    {
+        let mut end = self;
+        while let Some(next) = end.step() {
+            end = next;
+        }
+        end
+    }
+
+    // A path, or a word that is a literal.
+    #[tactic(auto, unfolding(crate::specs::Lengths::path_length))]
+    fn path(self) -> Option<Self>
+        ensures { Behind path_length self.entry result }
+    {
+        let end = self.name()?;
+        let word = &self.src[self.at..end.at];
+        Some(if is_literal(word) { end } else { end.steps() })
+    }
+
+    #[tactic(auto, unfolding(crate::specs::Lengths::value_length))]
+    pub(crate) fn value(self) -> Option<Self>
+        ensures { Behind value_length self.entry result }
+    {
+        match self.path() {
+            None => self.key(),
+            end => end,
+        }
+    }
+
+    // A value with the blanks around it.
+    #[tactic(auto, unfolding(crate::specs::Lengths::bound_length))]
+    pub(crate) fn bound(self) -> Option<Self>
+        ensures { Behind bound_length self.entry result }
+    {
+        Some(self.run(Class::Blank).value()?.run(Class::Blank))
+    }
+
+    #[tactic(auto, unfolding(crate::specs::Lengths::range_length, crate::specs::Lengths::dots_length))]
+    fn range(self) -> Option<Self>
+        ensures { Behind range_length self.entry result }
+    {
+        self.skip(b'(')?
+            .bound()?
+            .skip(b'.')?
+            .skip(b'.')?
+            .bound()?
+            .skip(b')')
+    }
+
+    #[tactic(auto, unfolding(crate::specs::Lengths::symbol_length))]
+    fn symbol(self) -> Option<Self>
+        ensures { Behind symbol_length self.entry result }
+    {
+        let symbol = symbol_of(&self.src[self.at..])?;
+        Some(Place {
+            src: self.src,
+            at: self.at + symbol.width(),
+        })
+    }
+
+    #[tactic(auto, unfolding(crate::specs::Lengths::token_length))]
+    pub(crate) fn token(self) -> Option<Self>
+        ensures { Behind token_length self.entry result }
+    {
+        match self.value() {
+            None => match self.range() {
+                None => self.symbol(),
+                end => end,
+            },
+            end => end,
+        }
+    }
+}
+
+#[tactic(auto, unfolding(crate::specs::Lengths::is_literal))]
+fn is_literal(word: &[u8]) -> bool
+    ensures { result ≡ is_literal word.now }
 {
-    match (a, b) {
-        (b'=', b'=') => Some(Symbol::Same),
-        (b'!', b'=') => Some(Symbol::Differs),
-        (b'<', b'>') => Some(Symbol::Differs),
-        (b'<', b'=') => Some(Symbol::AtMost),
-        (b'>', b'=') => Some(Symbol::AtLeast),
-        (b'=', _) => Some(Symbol::Assign),
-        (b'<', _) => Some(Symbol::Less),
-        (b'>', _) => Some(Symbol::Greater),
-        (b':', _) => Some(Symbol::Colon),
-        (b',', _) => Some(Symbol::Comma),
-        (b'|', _) => Some(Symbol::Bar),
+    matches!(word, b"nil" | b"true" | b"false")
+}
+
+// The symbol that the bytes begin with.
+pub(crate) fn symbol_of(bytes: &[u8]) -> Option<Symbol>
+    ensures { result ≡ symbol_of (slice_index bytes.now 0) (slice_index bytes.now 1) }
+{
+    match bytes {
+        [b'=', b'=', ..] => Some(Symbol::Same),
+        [b'!', b'=', ..] => Some(Symbol::Differs),
+        [b'<', b'>', ..] => Some(Symbol::Differs),
+        [b'<', b'=', ..] => Some(Symbol::AtMost),
+        [b'>', b'=', ..] => Some(Symbol::AtLeast),
+        [b'=', ..] => Some(Symbol::Assign),
+        [b'<', ..] => Some(Symbol::Less),
+        [b'>', ..] => Some(Symbol::Greater),
+        [b':', ..] => Some(Symbol::Colon),
+        [b',', ..] => Some(Symbol::Comma),
+        [b'|', ..] => Some(Symbol::Bar),
         _ => None,
     }
-}
-
-// The byte at `at`, or 0 behind the end.
-pub(crate) fn byte(src: &[u8], at: usize) -> u8
-    ensures { result ≡ slice_index src.now at }
-{
-    if at < src.len() { src[at] } else { 0 }
-}
-
-fn symbol_length(src: &[u8], at: usize) -> usize
-    requires { at < length src.now }
-    ensures is { result ≡ symbol_length src.now at }
-    ensures within { at + result ≤ length src.now }
-{
-    match symbol_of(byte(src, at), byte(src, at + 1)) {
-        Some(symbol) => {
-            let n = symbol.width();
-            if n <= src.len() - at { n } else { 0 }
-        }
-        None => 0,
-    }
-}
-
-pub(crate) fn token_length(src: &[u8], at: usize) -> usize
-    requires { at < length src.now }
-    ensures is { result ≡ token_length src.now at }
-    ensures within { at + result ≤ length src.now }
-{
-    let n = value_length(src, at);
-    if n > 0 {
-        return n;
-    }
-    let m = range_length(src, at);
-    if m > 0 { m } else { symbol_length(src, at) }
 }

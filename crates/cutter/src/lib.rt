@@ -5,5 +5,6 @@
 pub mod lengths;
 pub mod paths;
 pub mod pieces;
+mod places;
 pub mod state;
 pub mod tokens;

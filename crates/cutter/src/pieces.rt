@@ -1,32 +1,30 @@
 // A part under the cutter, and its pieces.
-ghost use Rattle.std.specs.Prelude.{◌≡◌, ◌≤◌, true, length};
+ghost use Rattle.std.specs.Prelude.{◌≡◌, true};
 ghost use Rattle.cutter.specs.Scan.{placed};
 
+use crate::places::Place;
 use crate::state::{Kind, State};
 
 pub mod next;
 
-/// A piece of a part, with the place where it begins: a text, a mark with the bytes between its opening and its closing mark, or the end.
-#[derive(Clone, Copy)]
+/// A piece of a part, with the place where it begins: a text, or a mark with the bytes between its opening and its closing mark.
+#[derive(Clone, Copy, Debug, PartialEq, Eq)]
 pub enum Piece<'a> {
     Text(usize, &'a [u8]),
     Mark(Kind, usize, &'a [u8]),
-    End,
 }
 
 /// Refusal 3: the mark that begins at `place` is not closed.
-#[derive(Clone, Copy)]
+#[derive(Clone, Copy, Debug, PartialEq, Eq)]
 pub struct Unclosed {
     pub place: usize,
 }
 
-/// The bytes `src`, cut up to `start`, where a piece begins that is read up to `at`.
+/// Bytes, cut up to `start`, where a piece begins that is read up to a place behind it.
 #[derive(Drop)]
 pub struct Cutter<'a> {
-    src: &'a [u8],
+    rest: Place<'a>,
     start: usize,
-    at: usize,
     state: State,
-    ghost within: { at ≤ length src.now },
-    ghost placed: { placed state start at ≡ true },
+    ghost placed: { placed state start rest.at ≡ true },
 }

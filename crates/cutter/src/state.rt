@@ -3,15 +3,15 @@ ghost use Rattle.std.specs.Prelude.{◌≡◌};
 ghost use Rattle.cutter.specs.Scan.{stepped};
 
 /// A tag stands between `{%` and `%}`, an output between `{{` and `}}`.
-#[derive(Clone, Copy)]
+#[derive(Clone, Copy, Debug, PartialEq, Eq)]
 pub enum Kind {
     Tag,
     Output,
 }
 
 // In text, behind a `{` of it, in a mark outside quotes, behind the first byte of its closing mark there, or in a quotation by that quote.
-#[derive(Clone, Copy)]
-pub enum State {
+#[derive(Clone, Copy, Debug, PartialEq, Eq)]
+pub(crate) enum State {
     Text,
     Brace,
     Inside(Kind),
@@ -20,8 +20,8 @@ pub enum State {
 }
 
 // What the byte does: it goes on with the piece, makes an opening mark whole, or a closing one.
-#[derive(Clone, Copy)]
-pub enum Event {
+#[derive(Clone, Copy, Debug, PartialEq, Eq)]
+pub(crate) enum Event {
     Goes,
     Opens,
     Closes(Kind),

@@ -1,20 +1,19 @@
 // The tokens of a mark's inside.
-ghost use Rattle.std.specs.Prelude.{◌≤◌, length};
-
 use crate::lengths::Symbol;
+use crate::places::Place;
 
 pub mod ahead;
 pub mod reading;
 
 /// A token as written, with its place.
-#[derive(Clone, Copy)]
+#[derive(Clone, Copy, Debug, PartialEq, Eq)]
 pub struct Word<'a> {
     pub place: usize,
     pub bytes: &'a [u8],
 }
 
 /// What a token stands for: a literal with its value (a text without its quotes), a bare name, a path's first name and its steps as written, the two bounds of a range, or a symbol.
-#[derive(Clone, Copy)]
+#[derive(Clone, Copy, Debug, PartialEq, Eq)]
 pub enum Token<'a> {
     Nil,
     Boolean(bool),
@@ -27,15 +26,13 @@ pub enum Token<'a> {
 }
 
 /// Refusal 4: at `place` no token can be cut.
-#[derive(Clone, Copy)]
+#[derive(Clone, Copy, Debug, PartialEq, Eq)]
 pub struct NoToken {
     pub place: usize,
 }
 
-/// The bytes `src`, cut into tokens up to `at`.
+/// Bytes, cut into tokens up to a place.
 #[derive(Clone, Copy)]
 pub struct Cursor<'a> {
-    src: &'a [u8],
-    at: usize,
-    ghost within: { at ≤ length src.now },
+    rest: Place<'a>,
 }

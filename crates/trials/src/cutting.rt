@@ -27,22 +27,28 @@ pub(crate) fn cut(heap: Global, part: &[u8]) -> Result<String, Wrong> {
     let mut cutter = Cutter::new(part);
     for _ in 0..part.len() {
         match cutter.next() {
-            Ok(Piece::Text(place, bytes)) => push_part(heap, &mut answer, place, "text", bytes)?,
-            Ok(Piece::Mark(Kind::Tag, place, bytes)) => push_part(
+            Ok(Some(Piece::Text(place, bytes))) => push_part(
+                heap,
+                &mut answer,
+                place,
+                "text",
+                bytes,
+            )?,
+            Ok(Some(Piece::Mark(Kind::Tag, place, bytes))) => push_part(
                 heap,
                 &mut answer,
                 place,
                 "tag",
                 bytes,
             )?,
-            Ok(Piece::Mark(Kind::Output, place, bytes)) => push_part(
+            Ok(Some(Piece::Mark(Kind::Output, place, bytes))) => push_part(
                 heap,
                 &mut answer,
                 place,
                 "output",
                 bytes,
             )?,
-            Ok(Piece::End) => break,
+            Ok(None) => break,
             Err(e) => {
                 push_part(heap, &mut answer, e.place, "unclosed", b"")?;
                 break;

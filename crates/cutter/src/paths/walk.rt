@@ -2,8 +2,8 @@ ghost use Rattle.std.specs.Prelude.{◌≡◌, ◌+◌, ◌^◌, ◌<◌, ◌≤
 ghost use Rattle.numerals.specs.Decimal.{whole_of};
 ghost use Rattle.cutter.specs.Paths.{bracket_of, step_of, steps_of, steps_left, placed_step, Walked, KeysAreInside};
 
-use crate::lengths::{Class, stands, step_length};
 use crate::paths::{StepWord, Steps};
+use crate::places::Place;
 use crate::tokens::reading::{fits, inner};
 use numerals::read_whole;
 
@@ -23,44 +23,40 @@ fn step_of(place: usize, step: &[u8]) -> StepWord<'_>
     requires fits { place + length step.now < 2 ^ 64 }
     ensures { placed_step result ≡ step_of place step.now }
 {
-    if stands(Class::Is(b'.'), step, 0) {
-        StepWord::Key(place + 1, &step[1..step.len()])
-    } else {
-        bracket_of(place, inner(step))
+    match step {
+        [b'.', key @ ..] => StepWord::Key(place + 1, key),
+        _ => bracket_of(place, inner(step)),
     }
 }
 
 impl<'a> Steps<'a> {
     /// The steps in these bytes, up to what is no step.
+    #[tactic(auto, using(crate::proofs::Walks::keys_inside), unfolding(crate::specs::Paths::steps_of, crate::specs::Paths::steps_from))]
     pub fn new(place: usize, bytes: &'a [u8]) -> Self
         ensures steps { steps_left result ≡ steps_of place bytes.now }
         ensures inside { KeysAreInside }
     {
         if fits(place, bytes) {
-            return Steps {
+            Steps {
                 place,
-                bytes,
-                at: 0,
-            };
-        }
-        Steps {
-            place: 0,
-            bytes: &bytes[0..0],
-            at: 0,
+                rest: Place { src: bytes, at: 0 },
+            }
+        } else {
+            Steps {
+                place: 0,
+                rest: Place { src: b"", at: 0 },
+            }
         }
     }
 
     /// The next step; nothing behind the last.
+    #[tactic(auto, using(crate::proofs::Walks::no_step, crate::proofs::Walks::one_step, crate::proofs::Walks::long_step))]
     pub fn next(&mut self) -> Option<StepWord<'a>>
         ensures { Walked (steps_left self.old) result (steps_left self.new) }
     {
-        let bytes = self.bytes;
-        let at = self.at;
-        let n = step_length(bytes, at);
-        if n == 0 {
-            return None;
-        }
-        self.at = at + n;
-        Some(step_of(self.place + at, &bytes[at..at + n]))
+        let start = self.rest;
+        let end = start.step()?;
+        self.rest = end;
+        Some(step_of(self.place + start.at, &start.src[start.at..end.at]))
     }
 }

@@ -3,8 +3,8 @@ ghost use Rattle.cutter.specs.Scan.{cut, cut_at};
 ghost use Rattle.cutter.specs.Left.{left, Gave};
 ghost use Rattle.cutter.specs.Laws.{RightCut, OnlyCut, Joins, TidyPieces, RightCutAt, OnlyCutAt, JoinsAt, TidyPiecesAt};
 
-use crate::lengths::within;
 use crate::pieces::{Cutter, Piece, Unclosed};
+use crate::places::Place;
 use crate::state::{Event, State};
 
 impl<'a> Cutter<'a> {
@@ -16,15 +16,11 @@ impl<'a> Cutter<'a> {
         ensures joins { Joins }
         ensures tidy { TidyPieces }
     {
-        Cutter {
-            src,
-            start: 0,
-            at: 0,
-            state: State::Text,
-        }
+        Cutter::at(src, 0)
     }
 
     /// The bytes of `src` from `place` on, to cut; nothing where it has fewer. Places count from the first byte of `src`.
+    #[tactic(auto, using(crate::proofs::Lawful::right_cut_at, crate::proofs::Lawful::only_cut_at, crate::proofs::Lawful::joins_at, crate::proofs::Lawful::tidy_pieces_at))]
     pub fn at(src: &'a [u8], place: usize) -> Self
         ensures cuts { left result ≡ cut_at place (drop place src.now) }
         ensures right { RightCutAt }
@@ -32,52 +28,47 @@ impl<'a> Cutter<'a> {
         ensures joins { JoinsAt }
         ensures tidy { TidyPiecesAt }
     {
-        let from = within(src, place);
-        let state = State::Text;
+        let start = place.min(src.len());
         Cutter {
-            src,
-            start: from,
-            at: from,
-            state,
+            rest: Place { src, at: start },
+            start,
+            state: State::Text,
         }
     }
 
-    /// The next piece; the end, or an unclosed mark, again and again.
-    pub fn next(&mut self) -> Result<Piece<'a>, Unclosed>
+    /// The next piece; nothing behind the last, and an unclosed mark again and again.
+    #[tactic(auto, using(crate::proofs::Steps::goes, crate::proofs::Steps::opens_text, crate::proofs::Steps::closes))]
+    pub fn next(&mut self) -> Result<Option<Piece<'a>>, Unclosed>
         ensures { Gave (left self.old) result (left self.new) }
     {
-        let src = self.src;
-        while self.at < src.len() {
-            let at = self.at;
+        while let Some(b) = self.rest.src.get(self.rest.at) {
+            let Place { src, at } = self.rest;
             let start = self.start;
-            let b = src[at];
-            let event = self.state.step(b);
-            self.at = at + 1;
+            let event = self.state.step(*b);
+            self.rest.at = at + 1;
             match event {
                 Event::Goes => {}
                 Event::Opens => {
                     self.start = at - 1;
                     if start < at - 1 {
-                        return Ok(Piece::Text(start, &src[start..at - 1]));
+                        return Ok(Some(Piece::Text(start, &src[start..at - 1])));
                     }
                 }
                 Event::Closes(kind) => {
                     self.start = at + 1;
-                    return Ok(Piece::Mark(kind, start, &src[start + 2..at - 1]));
+                    return Ok(Some(Piece::Mark(kind, start, &src[start + 2..at - 1])));
                 }
             }
         }
+        let Place { src, at } = self.rest;
         let start = self.start;
         match self.state {
-            State::Text | State::Brace => {
-                if start < self.at {
-                    self.start = self.at;
-                    self.state = State::Text;
-                    Ok(Piece::Text(start, &src[start..self.at]))
-                } else {
-                    Ok(Piece::End)
-                }
+            State::Text | State::Brace if start < at => {
+                self.start = at;
+                self.state = State::Text;
+                Ok(Some(Piece::Text(start, &src[start..at])))
             }
+            State::Text | State::Brace => Ok(None),
             _ => Err(Unclosed { place: start }),
         }
     }

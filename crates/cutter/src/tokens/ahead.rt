@@ -2,7 +2,8 @@ ghost use Rattle.std.specs.Prelude.{◌≡◌};
 ghost use Rattle.cutter.specs.Words.{words_from, tokens, TokensFill, TokensFillFrom, TokensStand};
 ghost use Rattle.cutter.specs.Ahead.{ahead, Took, Sees, Judged};
 
-use crate::lengths::{Class, run, token_length, within};
+use crate::lengths::Class;
+use crate::places::Place;
 use crate::tokens::{Cursor, NoToken, Word};
 
 impl<'a> Cursor<'a> {
@@ -11,39 +12,39 @@ impl<'a> Cursor<'a> {
         ensures tokens { ahead result ≡ tokens inside.now }
         ensures fill { TokensFill }
     {
-        Cursor { src: inside, at: 0 }
+        Cursor::at(inside, 0)
     }
 
     /// The bytes of `src` from `place` on, to cut; nothing where it has fewer. Places count from the first byte of `src`.
+    #[tactic(auto, using(crate::proofs::Filled::starts, crate::proofs::Fill::tokens_fill_from, crate::proofs::Standing::tokens_stand))]
     pub fn at(src: &'a [u8], place: usize) -> Self
         ensures tokens { ahead result ≡ words_from src.now place }
         ensures fill { TokensFillFrom }
         ensures stand { TokensStand }
     {
         Cursor {
-            src,
-            at: within(src, place),
+            rest: Place {
+                src,
+                at: place.min(src.len()),
+            },
         }
     }
 
     /// The next token; nothing behind the last.
+    #[tactic(auto, using(crate::proofs::Filled::over_there, crate::proofs::Filled::ends, crate::proofs::Filled::no_token, crate::proofs::Filled::token))]
     pub fn next(&mut self) -> Result<Option<Word<'a>>, NoToken>
         ensures { Took (ahead self.old) result (ahead self.new) }
     {
-        let src = self.src;
-        let place = self.at + run(Class::Blank, src, self.at);
-        if place == src.len() {
-            self.at = place;
+        let start = self.rest.run(Class::Blank);
+        if start.at == start.src.len() {
+            self.rest = start;
             return Ok(None);
         }
-        let n = token_length(src, place);
-        if n == 0 {
-            return Err(NoToken { place });
-        }
-        self.at = place + n;
+        let end = start.token().ok_or(NoToken { place: start.at })?;
+        self.rest = end;
         Ok(Some(Word {
-            place,
-            bytes: &src[place..place + n],
+            place: start.at,
+            bytes: &start.src[start.at..end.at],
         }))
     }
 
@@ -67,17 +68,7 @@ pub fn check(inside: &[u8]) -> Result<(), NoToken>
 pub fn check_from(src: &[u8], place: usize) -> Result<(), NoToken>
     ensures { Judged (words_from src.now place) result }
 {
-    let mut at = place;
-    while at < src.len() {
-        let place = at + run(Class::Blank, src, at);
-        if place == src.len() {
-            return Ok(());
-        }
-        let n = token_length(src, place);
-        if n == 0 {
-            return Err(NoToken { place });
-        }
-        at = place + n;
-    }
+    let mut cursor = Cursor::at(src, place);
+    while cursor.next()?.is_some() {}
     Ok(())
 }

@@ -5,10 +5,8 @@ ghost use Rattle.std.specs.Str.{bytes_eq};
 ghost use Rattle.cutter.specs.Lengths.{name_length};
 ghost use Rattle.cutter.specs.Tokens.{inner, word_of, name_of, bound_from, bound_of, second, range_of, plain_of, token_of, reading, ReadsParts};
 
-use crate::lengths::{
-    Class, Symbol, bound_length, byte, is, name_length, run, stands, symbol_of, value_length,
-    within,
-};
+use crate::lengths::{Class, Symbol, symbol_of};
+use crate::places::Place;
 use crate::tokens::{Token, Word};
 use numerals::read_whole;
 
@@ -16,67 +14,55 @@ use numerals::read_whole;
 pub(crate) fn fits(place: usize, bytes: &[u8]) -> bool
     ensures { result ≡ nat_lt (place + length bytes.now) (2 ^ 64) }
 {
-    bytes.len() <= usize::MAX - place
+    place.checked_add(bytes.len()).is_some()
 }
 
 // All but the first byte and the last.
 pub(crate) fn inner(bytes: &[u8]) -> &[u8]
     ensures { result.now ≡ inner bytes.now }
 {
-    let n = bytes.len();
-    if n < 2 {
-        &bytes[0..0]
-    } else {
-        &bytes[1..n - 1]
+    match bytes {
+        [_, inner @ .., _] => inner,
+        _ => b"",
     }
 }
 
 fn word_of(bytes: &[u8]) -> Token<'_>
     ensures { reading result ≡ word_of bytes.now }
 {
-    if is(bytes, b"nil") {
-        return Token::Nil;
+    match bytes {
+        b"nil" => Token::Nil,
+        b"true" => Token::Boolean(true),
+        b"false" => Token::Boolean(false),
+        _ => Token::Name(bytes),
     }
-    if is(bytes, b"true") {
-        return Token::Boolean(true);
-    }
-    if is(bytes, b"false") {
-        return Token::Boolean(false);
-    }
-    Token::Name(bytes)
 }
 
 fn name_of(bytes: &[u8]) -> Token<'_>
     ensures { reading result ≡ name_of bytes.now (name_length bytes.now 0) }
 {
-    let n = name_length(bytes, 0);
-    if n < bytes.len() {
-        Token::Path(&bytes[0..n], &bytes[n..bytes.len()])
-    } else {
+    let start = Place { src: bytes, at: 0 };
+    let n = start.name().map_or(0, |end| end.at);
+    let (name, steps) = bytes.split_at(n);
+    if steps.is_empty() {
         word_of(bytes)
+    } else {
+        Token::Path(name, steps)
     }
 }
 
-// The bound that begins at `at` of a range at `place`.
-fn bound(place: usize, bytes: &[u8], at: usize) -> Word<'_>
-    requires within { at ≤ length bytes.now }
-    requires fits { place + length bytes.now < 2 ^ 64 }
-    ensures place { result.place ≡ place + bound_from bytes.now at }
-    ensures bytes { result.bytes.now ≡ bound_of bytes.now at }
+// The value of the bound that begins at a place of a range at `place`.
+fn bound<'a>(place: usize, start: Place<'a>) -> Word<'a>
+    requires { place + length start.src.now < 2 ^ 64 }
+    ensures place { result.place ≡ place + bound_from start.entry.src.now start.entry.at }
+    ensures bytes { result.bytes.now ≡ bound_of start.entry.src.now start.entry.at }
 {
-    let from = at + run(Class::Blank, bytes, at);
-    let to = from + value_length(bytes, from);
+    let from = start.run(Class::Blank);
+    let to = from.value().unwrap_or(from);
     Word {
-        place: place + from,
-        bytes: &bytes[from..to],
+        place: place + from.at,
+        bytes: &from.src[from.at..to.at],
     }
-}
-
-fn second(bytes: &[u8]) -> usize
-    requires { 1 ≤ length bytes.now }
-    ensures { result ≡ second bytes.now }
-{
-    within(bytes, bound_length(bytes, 1) + 3)
 }
 
 fn range_of(place: usize, bytes: &[u8]) -> Token<'_>
@@ -86,9 +72,13 @@ fn range_of(place: usize, bytes: &[u8]) -> Token<'_>
     if !fits(place, bytes) {
         return Token::Nil;
     }
-    let first = bound(place, bytes, 1);
-    let other = bound(place, bytes, second(bytes));
-    Token::Range(first, other)
+    let first = Place { src: bytes, at: 1 };
+    let dots = first.bound().unwrap_or(first);
+    let second = Place {
+        src: bytes,
+        at: bytes.len().min(dots.at + 2),
+    };
+    Token::Range(bound(place, first), bound(place, second))
 }
 
 fn plain_of<'a>(number: Option<i64>, symbol: Option<Symbol>) -> Token<'a>
@@ -103,27 +93,29 @@ fn plain_of<'a>(number: Option<i64>, symbol: Option<Symbol>) -> Token<'a>
 
 impl<'a> Word<'a> {
     /// What the token stands for; nil for bytes that are no token.
+    #[tactic(auto, using(crate::proofs::Parts::reads_parts), unfolding(crate::specs::Tokens::token_of))]
     pub fn token(self) -> Token<'a>
         ensures reads { reading result ≡ token_of self.entry.place self.entry.bytes.now }
         ensures parts { ReadsParts }
     {
         let bytes = self.bytes;
-        if stands(Class::Initial, bytes, 0) {
+        let start = Place { src: bytes, at: 0 };
+        if start.stands(Class::Initial) {
             return name_of(bytes);
         }
-        if stands(Class::Quote, bytes, 0) {
+        if start.stands(Class::Quote) {
             return Token::Text(inner(bytes));
         }
-        if stands(Class::Is(b'('), bytes, 0) {
+        if start.stands(Class::Is(b'(')) {
             return range_of(self.place, bytes);
         }
-        plain_of(read_whole(bytes), symbol_of(byte(bytes, 0), byte(bytes, 1)))
+        plain_of(read_whole(bytes), symbol_of(bytes))
     }
 
     /// Whether these are the token's bytes as written.
     pub fn is(self, word: &[u8]) -> bool
         ensures { result ≡ bytes_eq self.entry.bytes.now word.now }
     {
-        is(self.bytes, word)
+        self.bytes == word
     }
 }

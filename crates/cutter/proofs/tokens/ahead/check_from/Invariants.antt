@@ -1,9 +1,11 @@
-use Rattle.std.proofs.Common.{◌≡◌, ◌-◌, length}
+use Rattle.std.proofs.Common.{◌≡◌}
 use Rattle.cutter.specs.Words.{words_from, verdict}
+use Rattle.cutter.specs.Ahead.{ahead}
+use Rattle.cutter.proofs.Filled.{word_count}
 use Rattle.cutter.proofs.tokens.ahead.check_from.Given as goal
 
-abbrev pub invariant-loop-at : goal.invariant-loop-at
-invariant-loop-at l = verdict (words_from l.src l.initial.place) ≡ verdict (words_from l.src l.at)
+abbrev pub invariant-loop : goal.invariant-loop
+invariant-loop l = verdict (words_from l.src l.place) ≡ verdict (ahead l.cursor)
 
-abbrev pub decreases-loop-at : goal.decreases-loop-at
-decreases-loop-at l = length l.src - l.at
+abbrev pub decreases-loop : goal.decreases-loop
+decreases-loop l = word_count (ahead l.cursor)
