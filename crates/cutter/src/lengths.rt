@@ -266,7 +266,7 @@ pub(crate) fn range_length(src: &[u8], at: usize) -> usize
 }
 
 /// `==`; `!=` and `<>`; `<=`; `>=`; `<`; `>`; `:`; `,`; `=`; `|`.
-#[derive(Clone, Copy)]
+#[derive(Clone, Copy, PartialEq, Eq)]
 pub enum Symbol {
     Same,
     Differs,
