@@ -24,7 +24,7 @@ fn front<'a>(text: &'a [u8], len: usize) -> &'a [u8]
 }
 
 // A part of a text; what lies past the end is left out.
-pub(crate) fn cut<'a>(text: &'a [u8], place: usize, len: usize) -> &'a [u8]
+pub fn cut<'a>(text: &'a [u8], place: usize, len: usize) -> &'a [u8]
     ensures { result.now ≡ cut_out text.now place len }
 {
     front(behind(text, place), len)
