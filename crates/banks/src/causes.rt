@@ -1,6 +1,8 @@
 ghost use Rattle.std.specs.Prelude.{◌≡◌};
 ghost use Rattle.banks.specs.Causes.{number_of};
 
+use std::fmt;
+
 /// Why a bank gives no value.
 #[derive(Clone, Copy, PartialEq, Eq, Debug)]
 pub enum Cause {
@@ -12,6 +14,17 @@ pub enum Cause {
     Overflow,
     /// There is no such phrase.
     NoPhrase,
+}
+
+impl fmt::Display for Cause {
+    fn fmt<W: fmt::Write>(&self, f: &mut fmt::Formatter<W>) -> fmt::Result {
+        f.write_str(match self {
+            Cause::UnknownName => "no bank knows the name",
+            Cause::WrongOperand => "an operand is wrong or missing",
+            Cause::Overflow => "the result is beyond 64 signed bits",
+            Cause::NoPhrase => "there is no such phrase",
+        })
+    }
 }
 
 impl Cause {
