@@ -1,13 +1,11 @@
 -- One call after another.
-use Rattle.std.proofs.Common.{◌≡◌, ℕ, ◌+◌, ◌-◌, ◌<◌, ◌≤◌, List, length, take, drop, Some, vec_items, Result, sym, ap, ◌∙◌, subst, arith}
-use Rattle.std.proofs.lemmas.Bool.{lt-ltb, le-leb}
+use Rattle.std.proofs.Common.{◌≡◌, ℕ, ◌+◌, ◌-◌, ◌≤◌, List, length, take, drop, Some, vec_items, Result, refl, sym, ap, ◌∙◌, subst, arith}
+use Rattle.std.proofs.lemmas.Bool.{le-leb}
 use Rattle.std.proofs.lemmas.List.{drop-drop, take-take, drop-take}
 use Rattle.cutter.specs.Tokens as cutter
-use Rattle.tree.specs.Expressions as tree
-use Rattle.nodes.specs.declared.exprs.Head.TheVariants.{Name}
-use Rattle.nodes.specs.Exprs.{Pool, only, bytes_of, head_of}
-use Rattle.nodes.proofs.Options.{front_then}
-use Rattle.nodes.proofs.Widens.{wider_then}
+use Rattle.nodes.specs.Exprs.{only, bytes_of}
+use Rattle.nodes.proofs.Options.{front_refl, front_then}
+use Rattle.nodes.proofs.Widens.{wider_refl, wider_then}
 use Rattle.arguments.specs.declared.reader.Reader.{Reader}
 use Rattle.arguments.specs.declared.refusals.Stop.{Stop}
 use Rattle.arguments.specs.declared.refusals.Stop.TheVariants.{Refused, Memory}
@@ -24,14 +22,13 @@ grown_then d e f h k =
       mark = k.mark ∙ h.mark;
     }
 
+pub grown_refl : (d : Reader) → Grown d d
+grown_refl d = record { pool = wider_refl (pool_of d); names = front_refl _; cycles = front_refl _; nodes = refl; mark = refl }
+
 -- a refusal stays one, whatever would follow
 pub refuses_went : {B C : Type 0} (e : Stop) (v : Verdict B) (k : B → Judge C) → Refuses e v → Refuses e (went v k)
 refuses_went (Refused r p) v k h = ap (λ x. went x k) h
 refuses_went Memory v k h = tt
-
--- the same refusal of an equal verdict
-pub refuses_same : {B : Type 0} (e : Stop) (v w : Verdict B) → w ≡ v → Refuses e v → Refuses e w
-refuses_same e v w q h = subst (Refuses e) (sym q) h
 
 -- what follows a call that went well
 pub said_went : {A B C : Type 0} (r : Result A Stop) (v : Verdict B) (k : B → Judge C) (y : B) (s : State) (D : A → C → Type 0) (s' : State) →
@@ -41,9 +38,6 @@ said_went r v k y s D s' e h = subst (λ t. Said r t D s') (sym (ap (λ t. went 
 -- the same of an equal verdict
 pub said_same : {A B : Type 0} (r : Result A Stop) (v w : Verdict B) (D : A → B → Type 0) (s : State) → w ≡ v → Said r v D s → Said r w D s
 said_same r v w D s q h = subst (λ t. Said r t D s) (sym q) h
-
-pub head_named : (b : Pool) (k : ℕ) → k < b.names → head_of b (Name k) ≡ Some (tree.named k)
-head_named b k h = ap (λ t. only t (tree.named k)) (lt-ltb k b.names h)
 
 -- bytes that stand in the source, as a part of it
 pub part_bytes : (source : List ℕ) (p : ℕ) (b : List ℕ) → Lies source p b → bytes_of source (record { place = p; len = length b }) ≡ Some b

@@ -1,5 +1,5 @@
 -- What was read, as entries of the tables.
-use Rattle.std.specs.Prelude.{◌≡◌, ℕ, Bool, true, false, List, [], ◌∷◌, ◌++◌, map, length, Some, Ok, Err, vec_items, Result, nat_le}
+use Rattle.std.specs.Prelude.{◌≡◌, ℕ, true, false, List, [], ◌∷◌, map, length, Some, Ok, Err, vec_items, Result, nat_le}
 use Rattle.cutter.specs.Paths.{PlacedStep, at_index, at_key}
 use Rattle.tree.specs.Expressions as tree
 use Rattle.nodes.specs.declared.exprs.Head.{Head}
@@ -7,10 +7,12 @@ use Rattle.nodes.specs.declared.exprs.Step.{Step}
 use Rattle.nodes.specs.declared.exprs.Step.TheVariants.{Index, Key}
 use Rattle.nodes.specs.declared.exprs.Expr.{Expr}
 use Rattle.nodes.specs.declared.exprs.Row.{Row}
-use Rattle.nodes.specs.Exprs.{Pool, each, head_of, step_of, expr_of, row_of}
+use Rattle.nodes.specs.declared.exprs.Span.{Span}
+use Rattle.nodes.specs.Exprs.{Pool, each, entries, head_of, step_of, expr_of, row_of}
 use Rattle.arguments.specs.declared.reader.Reader.{Reader}
 use Rattle.arguments.specs.declared.refusals.Stop.{Stop}
-use Rattle.arguments.specs.declared.refusals.Stop.TheVariants.{Memory}
+use Rattle.arguments.specs.declared.refusals.Stop.TheVariants.{Refused, Memory}
+use Rattle.arguments.specs.declared.refusals.Refusal.TheVariants.{Limit}
 use Rattle.arguments.specs.Values.{tree_step_of}
 use Rattle.arguments.specs.Tables.{pool_of, Lies}
 
@@ -29,25 +31,21 @@ KeysIn source [] = Prim.Unit {0}
 KeysIn source (at_index z ∷ ss) = KeysIn source ss
 KeysIn source (at_key p k ∷ ss) = Lies source p k × KeysIn source ss
 
--- the new steps in the table
-pub record Pushed (d e : Reader) (left : List PlacedStep) : Type 0 where
+-- the steps of a path, at most four, as entries of the table
+pub record Entered (e : Reader) (ss : List PlacedStep) (s : Span) : Type 0 where
+  pub few : nat_le (length ss) 4 ≡ true
   pub new : List Step
-  pub is : vec_items e.steps ≡ vec_items d.steps ++ new
-  pub are : each (step_of (pool_of d)) new ≡ Some (map tree_step_of left)
+  pub there : entries (vec_items e.steps) s ≡ Some new
+  pub are : each (step_of (pool_of e)) new ≡ Some (map tree_step_of ss)
 
-abbrev pub OutOfMemory : Stop → Type 0
-OutOfMemory s = s ≡ Memory
+-- more than four steps, refused at a place; or want of memory
+abbrev pub TooMany : List PlacedStep → ℕ → Stop → Type 0
+TooMany ss place (Refused k p) = (nat_le (length ss) 4 ≡ false) × (k ≡ Limit) × (p ≡ place)
+TooMany ss place Memory = Prim.Unit {0}
 
--- whether there were few enough steps, which are in the table then
-abbrev pub Stepped : Reader → Reader → List PlacedStep → ℕ → Result Bool Stop → Type 0
-Stepped d e left room (Ok true) = (nat_le (length left) room ≡ true) × Pushed d e left
-Stepped d e left room (Ok false) = nat_le (length left) room ≡ false
-Stepped d e left room (Err s) = OutOfMemory s
-
--- no other end than done, or want of memory
-abbrev pub Full : {A : Type 0} → Result A Stop → Type 0
-Full (Ok x) = Prim.Unit {0}
-Full (Err s) = OutOfMemory s
+abbrev pub Stepped : Reader → List PlacedStep → ℕ → Result Span Stop → Type 0
+Stepped e ss place (Ok s) = Entered e ss s
+Stepped e ss place (Err x) = TooMany ss place x
 
 -- a step as an entry of the table
 abbrev pub entry_of : PlacedStep → Step

@@ -1,5 +1,5 @@
 -- What the reader's tables say, and what its functions answer.
-use Rattle.std.specs.Prelude.{◌≡◌, ℕ, ◌+◌, ◌<◌, ◌≤◌, List, map, length, take, drop, Ok, Err, vec_items, Result}
+use Rattle.std.specs.Prelude.{◌≡◌, ℕ, ◌+◌, ◌<◌, ◌≤◌, true, false, List, map, length, take, drop, Ok, Err, vec_items, Result}
 use Rattle.tray.specs.Parts.{cut}
 use Rattle.cutter.specs.Ahead.{ahead}
 use Rattle.cutter.specs.declared.tokens.Word.{Word}
@@ -8,6 +8,7 @@ use Rattle.nodes.specs.declared.exprs.Filter.{Filter}
 use Rattle.nodes.specs.Exprs.{Pool}
 use Rattle.nodes.specs.Wider.{Front, Wider}
 use Rattle.arguments.specs.declared.reader.CycleName as code
+use Rattle.arguments.specs.declared.reader.CycleName.TheVariants.{Given, Made}
 use Rattle.arguments.specs.declared.reader.Reader.{Reader}
 use Rattle.arguments.specs.declared.refusals.Stop.{Stop}
 use Rattle.arguments.specs.declared.refusals.Stop.TheVariants.{Refused, Memory}
@@ -19,7 +20,8 @@ abbrev pub part_in : List ℕ → Part → List ℕ
 part_in source p = cut source p.place p.len
 
 abbrev pub cycle_of : code.CycleName → CycleName
-cycle_of c = record { given = c.given; bytes = take c.len c.bytes }
+cycle_of (Given b) = record { given = true; bytes = b.items }
+cycle_of (Made b) = record { given = false; bytes = b.items }
 
 abbrev pub asked_in : List ℕ → Filter → Asked
 asked_in source f = record { place = f.name.place; name = part_in source f.name }

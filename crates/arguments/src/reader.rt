@@ -3,6 +3,7 @@ ghost use Rattle.std.specs.Prelude.{◌≡◌, ◌≤◌, true, vec_len};
 ghost use Rattle.cutter.specs.Ahead.{ahead};
 ghost use Rattle.arguments.specs.Standing.{standing};
 
+use arrayvec::ArrayVec;
 use cutter::tokens::Cursor;
 use nodes::exprs::{Expr, Filter, Part, Step};
 use nodes::table::Node;
@@ -11,12 +12,11 @@ pub mod lists;
 pub mod values;
 pub mod words;
 
-/// A cycle name: given in the tag, or made of its values; and its first `len` bytes.
-#[derive(Clone, Copy)]
-pub struct CycleName {
-    pub given: bool,
-    pub len: usize,
-    pub bytes: [u8; 128],
+/// A cycle name of at most 128 bytes: given in the tag, or made of its values.
+#[derive(Debug, PartialEq, Eq, Drop)]
+pub enum CycleName {
+    Given(ArrayVec<u8, 128>),
+    Made(ArrayVec<u8, 128>),
 }
 
 /// The source and the tables that it is read into; and the tokens of the mark at `mark` that are ahead.

@@ -2,7 +2,7 @@
 use crate::exprs::{Chain, Comparison, Expr, Part, Row, Span};
 
 /// An element that holds no others. Targets and cycle names are numbers of the sheet, values entries of the table of values.
-#[derive(Clone, Copy)]
+#[derive(Clone, Copy, Debug, PartialEq, Eq)]
 pub enum Leaf {
     Plain(Part),
     Output(Chain),
@@ -15,7 +15,7 @@ pub enum Leaf {
 }
 
 /// A tag that holds elements, with its arguments; `If` is `unless` too.
-#[derive(Clone, Copy)]
+#[derive(Clone, Copy, Debug, PartialEq, Eq)]
 pub enum Block {
     If,
     For {
@@ -37,7 +37,7 @@ pub enum Block {
 }
 
 /// What decides about an arm. The tests of a condition stand behind the node of the arm, up to its body.
-#[derive(Clone, Copy)]
+#[derive(Clone, Copy, Debug, PartialEq, Eq)]
 pub enum Guard {
     Holds,
     Fails,
@@ -47,7 +47,7 @@ pub enum Guard {
 }
 
 /// What stands behind an arm: nothing more of the block, an arm with a node of its own, or the elements of an `else`.
-#[derive(Clone, Copy)]
+#[derive(Clone, Copy, Debug, PartialEq, Eq)]
 pub enum Next {
     Nothing,
     Arm,
@@ -55,7 +55,7 @@ pub enum Next {
 }
 
 /// An arm of a block: its elements are the nodes from `body` up to `next`.
-#[derive(Clone, Copy)]
+#[derive(Clone, Copy, Debug, PartialEq, Eq)]
 pub struct Arm {
     pub guard: Guard,
     pub body: usize,
@@ -65,7 +65,7 @@ pub struct Arm {
 
 /// An element, with its place in the source; an `elsif` or `when`; a test of a condition, or what joins two of them.
 /// A block ends before the node `end`. Only a `case` opens without an arm of its own.
-#[derive(Clone, Copy)]
+#[derive(Clone, Copy, Debug, PartialEq, Eq)]
 pub enum Node {
     Leaf {
         place: usize,

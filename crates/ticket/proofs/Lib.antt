@@ -1,4 +1,2 @@
 pub mod Goes
-pub mod Joins
 pub mod Spells
-pub mod Wholes

@@ -1,6 +1,6 @@
 -- What is written for a record is what the format says of it.
 use Rattle.std.proofs.Common.{◌≡◌, ℕ, suc, ◌+◌, ◌*◌, ◌/◌, ◌%◌, ◌<◌, ◌≤◌, true, false, [], ◌∷◌, sym, ap, ◌∙◌, subst, arith, to_z-of_z, w64, SFits, to_z, of_z}
-use native.Mathlib.Nat.{div-div-eq-div-mul, mod-add-div}
+use native.Mathlib.Nat.{mod-add-div}
 use mir.Facts.{Fits-of_z}
 use Rattle.tray.specs.Format.{little, RecordBytes, a_nil, a_false, a_true, a_whole, a_text, an_array, an_object, none, more}
 use Rattle.tray.specs.declared.records.Record.{Record}
@@ -61,7 +61,3 @@ one_spelt room (Object f n) s = object_spelt room f n s
 pub read_as_written : ReadAsWritten
 read_as_written room [] s = none
 read_as_written room (r ∷ rs) s = more (one_spelt room r s.0) (read_as_written room rs s.1)
-
--- the bytes of 64 bits as the library writes them
-pub flat : (n : ℕ) → (n % 256) ∷ ((n / 256 % 256) ∷ ((n / 65536 % 256) ∷ ((n / 16777216 % 256) ∷ ((n / 4294967296 % 256) ∷ ((n / 1099511627776 % 256) ∷ ((n / 281474976710656 % 256) ∷ ((n / 72057594037927936 % 256) ∷ []))))))) ≡ low_first 8 n
-flat n = simp div-div-eq-div-mul

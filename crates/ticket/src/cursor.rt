@@ -1,6 +1,6 @@
 //! A place in a text of bytes.
 
-ghost use Rattle.std.specs.Prelude.{◌≡◌, ◌-◌, ◌≤◌, length, is_some, nat_lt};
+ghost use Rattle.std.specs.Prelude.{◌≡◌, ◌+◌, ◌-◌, ◌≤◌, length, is_some, nat_lt};
 
 // What is left of a text, and how long the whole is.
 #[derive(Drop)]
@@ -39,13 +39,9 @@ impl<'a> Cursor<'a> {
         ensures some { is_some result ≡ nat_lt 0 (length self.old.rest.now) }
         ensures left { length self.new.rest.now ≡ length self.old.rest.now - 1 }
     {
-        match self.rest.split_first() {
-            None => None,
-            Some((b, rest)) => {
-                self.rest = rest;
-                Some(*b)
-            }
-        }
+        let (first, rest) = self.rest.split_first()?;
+        self.rest = rest;
+        Some(*first)
     }
 
     // Takes the next byte if it is `b`.
@@ -59,27 +55,48 @@ impl<'a> Cursor<'a> {
         found
     }
 
+    // Takes these bytes if they are next.
+    pub(crate) fn take_all(&mut self, bytes: &[u8]) -> bool
+        ensures { length self.new.rest.now ≤ length self.old.rest.now }
+    {
+        match self.rest.strip_prefix(bytes) {
+            Some(rest) => {
+                self.rest = rest;
+                true
+            }
+            None => false,
+        }
+    }
+
+    // Takes the bytes up to the first that fails the test, or to the end.
+    pub(crate) fn take_while<F: Fn(u8) -> bool>(&mut self, test: F) -> &'a [u8]
+        requires { F.IsAlwaysCallable test }
+        ensures { length self.new.rest.now + length result.now ≡ length self.old.rest.now }
+    {
+        let len = self
+            .rest
+            .iter()
+            .position(|b| !test(*b))
+            .unwrap_or(self.rest.len());
+        let (taken, rest) = self.rest.split_at(len);
+        self.rest = rest;
+        taken
+    }
+
     pub(crate) fn skip_blanks(&mut self)
         ensures { length self.new.rest.now ≤ length self.old.rest.now }
     {
-        while let Some(b' ' | b'\t' | b'\r' | b'\n') = self.peek() {
-            self.take();
-        }
+        self.take_while(is_blank);
     }
 
     // Takes the bytes up to the next blank or the end.
     pub(crate) fn word(&mut self) -> &'a [u8]
         ensures { length self.new.rest.now ≤ length self.old.rest.now }
     {
-        let from = self.rest;
-        let mut len = 0;
-        while let Some(b) = self.peek() {
-            if matches!(b, b' ' | b'\t' | b'\r' | b'\n') {
-                break;
-            }
-            self.take();
-            len += 1;
-        }
-        &from[0..len]
+        self.take_while(|b| !is_blank(b))
     }
+}
+
+fn is_blank(b: u8) -> bool {
+    matches!(b, b' ' | b'\t' | b'\r' | b'\n')
 }

@@ -1,6 +1,6 @@
 //! A filter of the banks of sums and phrases, side by side.
 
-use crate::job::Filtering;
+use crate::job::{Filtering, TrayParts};
 use crate::json::tree::{Json, Kind};
 use crate::quote::push_quoted;
 use banks::answers::Answer;
@@ -13,31 +13,32 @@ use banks::sums::Sums;
 use std::alloc::{AllocError, Global};
 use std::io;
 use std::io::Write;
-use tray::trays::Tray;
 
 // Applies the filter, with the phrases of a tray, and prints its answer.
 pub(crate) fn apply(
     rt: &HostRuntime,
-    records: &[u8],
-    text: &[u8],
+    phrases: TrayParts<'_>,
     filtering: &Filtering,
 ) -> io::Result<()> {
-    let Ok(tray) = Tray::open(rt.alloc(), records, text) else {
-        return rt.stdout().write_all(b"filter failed: no memory\n");
+    let Ok(tray) = phrases.open(rt.alloc()) else {
+        return println!(rt; "filter failed: no memory");
     };
     let mut bank = join(Sums {}, Phrases::new(tray));
     let line = answer_line(rt.alloc(), &mut bank, filtering)?;
     rt.stdout().write_all(line.as_slice())
 }
 
-// The operand of a JSON value, where a filter takes such a value.
-fn operand<'a>(json: &'a Json) -> Option<Operand<'a>> {
-    match json.nodes.first()?.kind {
-        Kind::Nil => Some(Operand::Nil),
-        Kind::Flag(b) => Some(Operand::Boolean(b)),
-        Kind::Whole(n) => Some(Operand::Whole(n)),
-        Kind::Text(_, _) => Some(Operand::Text(Short::new(json.texts.as_slice())?)),
-        Kind::Array(_) | Kind::Object(_) => None,
+// The operand of a JSON value, where a filter takes such a value; any other is wrong without a call.
+fn operand<'a>(json: &'a Json) -> Result<Operand<'a>, Cause> {
+    let whole = json.nodes.first().ok_or(Cause::WrongOperand)?;
+    match whole.kind {
+        Kind::Nil => Ok(Operand::Nil),
+        Kind::Flag(b) => Ok(Operand::Boolean(b)),
+        Kind::Whole(n) => Ok(Operand::Whole(n)),
+        Kind::Text(_) => Short::new(json.texts.as_slice())
+            .map(Operand::Text)
+            .ok_or(Cause::WrongOperand),
+        Kind::Array(_) | Kind::Object(_) => Err(Cause::WrongOperand),
     }
 }
 
@@ -61,42 +62,22 @@ fn answer_line<B: Bank>(
         }
         Err(cause) => {
             let number = cause.number();
-            let why = words(cause);
-            let reason = format!(in heap; " cause {number}: {why}\n")?;
+            let reason = format!(in heap; " cause {number}: {cause}\n")?;
             line.extend_from_slice(reason.as_bytes())?;
         }
     }
     Ok(line)
 }
 
-// The operand of the argument, if there is one; nothing where no filter takes such a value.
-fn argument_of<'a>(argument: &'a Option<Json>) -> Option<Option<Operand<'a>>> {
-    match argument {
-        None => Some(None),
-        Some(json) => Some(Some(operand(json)?)),
-    }
-}
-
-// An operand that no filter takes is wrong without a call.
 fn answer<B: Bank>(
     bank: &mut B,
     filtering: &Filtering,
     buffer: &mut [u8; 256],
 ) -> Result<Answer, Cause> {
-    let Some(input) = operand(&filtering.input) else {
-        return Err(Cause::WrongOperand);
-    };
-    let Some(argument) = argument_of(&filtering.argument) else {
-        return Err(Cause::WrongOperand);
+    let input = operand(&filtering.input)?;
+    let argument = match &filtering.argument {
+        Some(json) => Some(operand(json)?),
+        None => None,
     };
     bank.apply(filtering.name.as_slice(), input, argument, buffer)
-}
-
-fn words(cause: Cause) -> &'static str {
-    match cause {
-        Cause::UnknownName => "no bank knows the name",
-        Cause::WrongOperand => "an operand is wrong or missing",
-        Cause::Overflow => "the result is beyond 64 signed bits",
-        Cause::NoPhrase => "there is no such phrase",
-    }
 }

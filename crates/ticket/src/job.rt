@@ -1,7 +1,5 @@
 //! A job: one action a line. Blank lines and lines that begin with `#` are comments.
 
-ghost use Rattle.std.specs.Prelude.{◌+◌, ◌<◌, ◌≤◌, length};
-
 use crate::cursor::Cursor;
 use crate::json;
 use crate::json::errors::{Fault, JsonError};
@@ -9,13 +7,38 @@ use crate::json::tree::Json;
 use crate::layout::{LayoutError, Unsaid, lay_out};
 use crate::spelling::spell_all;
 use std::alloc::{AllocError, AllocFailed, Global};
-use std::fs;
+use std::error::Error;
+use std::{fmt, fs};
+use tray::records::OpenError;
+use tray::trays::Tray;
 
 // The bytes of a tray: its records, and the text that they cite.
 #[derive(Drop)]
 pub(crate) struct TrayBytes {
-    pub(crate) records: Vec<u8>,
-    pub(crate) text: Vec<u8>,
+    records: Vec<u8>,
+    text: Vec<u8>,
+}
+
+impl TrayBytes {
+    pub(crate) fn parts(&self) -> TrayParts<'_> {
+        TrayParts {
+            records: self.records.as_slice(),
+            text: self.text.as_slice(),
+        }
+    }
+}
+
+// The same, borrowed.
+#[derive(Clone, Copy)]
+pub(crate) struct TrayParts<'a> {
+    pub(crate) records: &'a [u8],
+    pub(crate) text: &'a [u8],
+}
+
+impl<'a> TrayParts<'a> {
+    pub(crate) fn open(self, heap: Global) -> Result<Tray<'a>, OpenError> {
+        Tray::open(heap, self.records, self.text)
+    }
 }
 
 #[derive(Drop)]
@@ -41,7 +64,7 @@ pub(crate) struct Filtering {
 }
 
 // Why a line is no action.
-#[derive(Clone, Copy)]
+#[derive(Clone, Copy, Debug)]
 pub(crate) enum LineFault {
     UnknownWord,
     NoFilter,
@@ -52,16 +75,16 @@ pub(crate) enum LineFault {
     Json(Fault),
 }
 
-impl LineFault {
-    pub(crate) fn words(self) -> &'static str {
+impl fmt::Display for LineFault {
+    fn fmt<W: fmt::Write>(&self, f: &mut fmt::Formatter<W>) -> fmt::Result {
         match self {
-            LineFault::UnknownWord => "no such action",
-            LineFault::NoFilter => "a filter name is wanted here",
-            LineFault::NoFileName => "a file name is wanted here",
-            LineFault::FileName => "a file name is not UTF-8",
-            LineFault::Unreadable => "this file cannot be read",
-            LineFault::LeftOver => "something is left over",
-            LineFault::Json(fault) => fault.words(),
+            LineFault::UnknownWord => f.write_str("no such action"),
+            LineFault::NoFilter => f.write_str("a filter name is wanted here"),
+            LineFault::NoFileName => f.write_str("a file name is wanted here"),
+            LineFault::FileName => f.write_str("a file name is not UTF-8"),
+            LineFault::Unreadable => f.write_str("this file cannot be read"),
+            LineFault::LeftOver => f.write_str("something is left over"),
+            LineFault::Json(fault) => fault.fmt(f),
         }
     }
 }
@@ -79,8 +102,31 @@ impl From<AllocError> for LineError {
     }
 }
 
+impl From<JsonError> for LineError {
+    fn from(e: JsonError) -> LineError {
+        match e {
+            JsonError::Memory => LineError::Memory,
+            JsonError::Bad(at, fault) => LineError::Bad(at, LineFault::Json(fault)),
+        }
+    }
+}
+
+impl LineError {
+    // The same in the line with this number, from 0.
+    fn in_line(self, line: usize) -> JobError {
+        match self {
+            LineError::Memory => JobError::Memory,
+            LineError::Bad(at, fault) => JobError::Bad {
+                line: line.saturating_add(1),
+                column: at.saturating_add(1),
+                fault,
+            },
+        }
+    }
+}
+
 // Where a job stops: its line and the place in it, both from 1; or want of memory.
-#[derive(Clone, Copy)]
+#[derive(Clone, Copy, Debug)]
 pub(crate) enum JobError {
     Memory,
     Bad {
@@ -96,44 +142,33 @@ impl<T: Drop> From<AllocFailed<T>> for JobError {
     }
 }
 
+impl fmt::Display for JobError {
+    fn fmt<W: fmt::Write>(&self, f: &mut fmt::Formatter<W>) -> fmt::Result {
+        match self {
+            JobError::Memory => write!(f, "no memory"),
+            JobError::Bad {
+                line,
+                column,
+                fault,
+            } => write!(f, "line {line}, column {column}: {fault}"),
+        }
+    }
+}
+
+impl Error for JobError {}
+
 // Reads the actions of `job` into `actions`, up to the first line that is none.
 pub(crate) fn read_job(
     rt: &HostRuntime,
     job: &[u8],
     actions: &mut Vec<Action>,
 ) -> Result<(), JobError> {
-    let mut rest = job;
-    let mut line = 0;
-    while rest.len() > 0 {
-        let (first, others) = cut_line(rest);
-        line += 1;
-        rest = others;
-        match read_line(rt, first) {
-            Ok(Some(action)) => actions.push(action)?,
-            Ok(None) => {}
-            Err(LineError::Memory) => return Err(JobError::Memory),
-            Err(LineError::Bad(at, fault)) => {
-                return Err(JobError::Bad {
-                    line,
-                    column: at.saturating_add(1),
-                    fault,
-                });
-            }
+    for (number, line) in job.split(|b| *b == b'\n').enumerate() {
+        if let Some(action) = read_line(rt, line).map_err(|e| e.in_line(number))? {
+            actions.push(action)?;
         }
     }
     Ok(())
-}
-
-// The first line without its end, and what follows its end.
-fn cut_line<'a>(text: &'a [u8]) -> (&'a [u8], &'a [u8])
-    ensures { 0 < length text.now → length result.1.now < length text.now }
-{
-    for i in 0..text.len() {
-        if text[i] == b'\n' {
-            return (&text[0..i], &text[i + 1..]);
-        }
-    }
-    (text, &text[0..0])
 }
 
 // The action of a line; a comment has none.
@@ -144,21 +179,18 @@ fn read_line(rt: &HostRuntime, line: &[u8]) -> Result<Option<Action>, LineError>
         return Ok(None);
     }
     let at = cursor.at();
-    let word = cursor.word();
-    if word == b"host".as_slice() {
-        Ok(Some(read_host(rt.alloc(), cursor)?))
-    } else if word == b"tray".as_slice() {
-        Ok(Some(read_tray(rt, cursor)?))
-    } else if word == b"show".as_slice() {
-        end_line(cursor)?;
-        Ok(Some(Action::Show))
-    } else if word == b"phrases".as_slice() {
-        Ok(Some(read_phrases(rt.alloc(), cursor)?))
-    } else if word == b"filter".as_slice() {
-        Ok(Some(read_filter(rt.alloc(), cursor)?))
-    } else {
-        Err(LineError::Bad(at, LineFault::UnknownWord))
-    }
+    let action = match cursor.word() {
+        b"host" => read_object(rt.alloc(), cursor, Action::Open)?,
+        b"tray" => read_tray(rt, cursor)?,
+        b"show" => {
+            end_line(cursor)?;
+            Action::Show
+        }
+        b"phrases" => read_object(rt.alloc(), cursor, Action::Phrases)?,
+        b"filter" => read_filter(rt.alloc(), cursor)?,
+        _ => return Err(LineError::Bad(at, LineFault::UnknownWord)),
+    };
+    Ok(Some(action))
 }
 
 fn end_line(mut cursor: Cursor<'_>) -> Result<(), LineError> {
@@ -169,47 +201,22 @@ fn end_line(mut cursor: Cursor<'_>) -> Result<(), LineError> {
     }
 }
 
-// A fault of JSON that begins at `from`.
-fn json_fault(from: usize, e: JsonError) -> LineError {
-    match e {
-        JsonError::Memory => LineError::Memory,
-        JsonError::Bad(at, fault) => LineError::Bad(
-            from.saturating_add(at),
-            LineFault::Json(fault),
-        ),
-    }
-}
-
-// The bytes of a tray that holds the object, or what its records cannot say.
-fn read_object(heap: Global, cursor: Cursor<'_>) -> Result<Result<TrayBytes, Unsaid>, LineError> {
-    let host = match json::read(heap, cursor.rest()) {
-        Ok(host) => host,
-        Err(e) => return Err(json_fault(cursor.at(), e)),
-    };
+// What to do with the bytes of a tray that holds the object ahead, or what its records cannot say.
+fn read_object<F: FnOnce(TrayBytes) -> Action>(
+    heap: Global,
+    cursor: Cursor<'_>,
+    make: F,
+) -> Result<Action, LineError>
+    requires { F.IsAlwaysCallable make }
+{
+    let host = json::read(heap, cursor)?;
     match lay_out(heap, &host) {
-        Ok(records) => {
-            let records = spell_all(heap, records.as_slice())?;
-            Ok(Ok(TrayBytes {
-                records,
-                text: host.texts,
-            }))
-        }
+        Ok(records) => Ok(make(TrayBytes {
+            records: spell_all(heap, records.as_slice())?,
+            text: host.texts,
+        })),
+        Err(LayoutError::Unsaid(what)) => Ok(Action::NotLaidOut(what)),
         Err(LayoutError::Memory) => Err(LineError::Memory),
-        Err(LayoutError::Unsaid(what)) => Ok(Err(what)),
-    }
-}
-
-fn read_host(heap: Global, cursor: Cursor<'_>) -> Result<Action, LineError> {
-    match read_object(heap, cursor)? {
-        Ok(bytes) => Ok(Action::Open(bytes)),
-        Err(what) => Ok(Action::NotLaidOut(what)),
-    }
-}
-
-fn read_phrases(heap: Global, cursor: Cursor<'_>) -> Result<Action, LineError> {
-    match read_object(heap, cursor)? {
-        Ok(bytes) => Ok(Action::Phrases(bytes)),
-        Err(what) => Ok(Action::NotLaidOut(what)),
     }
 }
 
@@ -221,10 +228,10 @@ fn read_filter(heap: Global, mut cursor: Cursor<'_>) -> Result<Action, LineError
         return Err(LineError::Bad(at, LineFault::NoFilter));
     }
     let name = Vec::from_slice(heap, word)?;
-    let input = read_operand(heap, &mut cursor)?;
+    let input = json::read_value(heap, &mut cursor)?;
     cursor.skip_blanks();
     let argument = match cursor.peek() {
-        Some(_) => Some(read_operand(heap, &mut cursor)?),
+        Some(_) => Some(json::read_value(heap, &mut cursor)?),
         None => None,
     };
     end_line(cursor)?;
@@ -233,13 +240,6 @@ fn read_filter(heap: Global, mut cursor: Cursor<'_>) -> Result<Action, LineError
         input,
         argument,
     }))
-}
-
-fn read_operand(heap: Global, cursor: &mut Cursor<'_>) -> Result<Json, LineError> {
-    match json::read_value(heap, cursor) {
-        Ok(json) => Ok(json),
-        Err(e) => Err(json_fault(0, e)),
-    }
 }
 
 fn read_tray(rt: &HostRuntime, mut cursor: Cursor<'_>) -> Result<Action, LineError> {
@@ -257,11 +257,6 @@ fn read_file(rt: &HostRuntime, cursor: &mut Cursor<'_>) -> Result<Vec<u8>, LineE
     if word.is_empty() {
         return Err(LineError::Bad(at, LineFault::NoFileName));
     }
-    let Ok(name) = std::str::from_utf8(word) else {
-        return Err(LineError::Bad(at, LineFault::FileName));
-    };
-    match fs::read(rt, name) {
-        Ok(bytes) => Ok(bytes),
-        Err(_) => Err(LineError::Bad(at, LineFault::Unreadable)),
-    }
+    let name = std::str::from_utf8(word).map_err(|_| LineError::Bad(at, LineFault::FileName))?;
+    fs::read(rt, name).map_err(|_| LineError::Bad(at, LineFault::Unreadable))
 }

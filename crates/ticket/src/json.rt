@@ -9,9 +9,8 @@ pub(crate) mod errors;
 pub(crate) mod tokens;
 pub(crate) mod tree;
 
-// The object that `src` holds, with nothing but blanks around it.
-pub(crate) fn read(heap: Global, src: &[u8]) -> Result<Json, JsonError> {
-    let mut cursor = Cursor::new(src);
+// The object ahead, with nothing but blanks around it.
+pub(crate) fn read(heap: Global, mut cursor: Cursor<'_>) -> Result<Json, JsonError> {
     cursor.skip_blanks();
     let at = cursor.at();
     let json = read_value(heap, &mut cursor)?;

@@ -2,6 +2,7 @@
 
 use crate::json::tree::{Json, Kind, Node};
 use std::alloc::{AllocFailed, Global};
+use std::fmt;
 use tray::records::Record;
 
 // What a record cannot say: each of its numbers has two bytes.
@@ -13,14 +14,14 @@ pub(crate) enum Unsaid {
     Count,
 }
 
-impl Unsaid {
-    pub(crate) fn words(self) -> &'static str {
-        match self {
+impl fmt::Display for Unsaid {
+    fn fmt<W: fmt::Write>(&self, f: &mut fmt::Formatter<W>) -> fmt::Result {
+        f.write_str(match self {
             Unsaid::Place => "a text begins past byte 65,535 of the tray text",
             Unsaid::Length => "a text has more than 65,535 bytes",
             Unsaid::First => "the parts of an array or object begin past record 65,535",
             Unsaid::Count => "an array or object has more than 65,535 parts",
-        }
+        })
     }
 }
 
@@ -42,6 +43,7 @@ pub(crate) fn lay_out(heap: Global, json: &Json) -> Result<Vec<Record>, LayoutEr
     let mut order = Vec::new(heap);
     let mut records = Vec::new(heap);
     order.push(0usize)?;
+    // No iterator goes over `order`, which grows meanwhile. There are no more records than nodes.
     for r in 0..json.nodes.len() {
         let Some(at) = order.get(r).copied() else {
             break;
@@ -62,9 +64,9 @@ fn lay_one(nodes: &[Node], at: usize, order: &mut Vec<usize>) -> Result<Record, 
         Kind::Nil => Ok(Record::Nil),
         Kind::Flag(b) => Ok(Record::Boolean(b)),
         Kind::Whole(n) => Ok(Record::Whole(n)),
-        Kind::Text(place, len) => Ok(Record::Text(
-            short(place, Unsaid::Place)?,
-            short(len, Unsaid::Length)?,
+        Kind::Text(part) => Ok(Record::Text(
+            short(part.place, Unsaid::Place)?,
+            short(part.len, Unsaid::Length)?,
         )),
         Kind::Array(n) => {
             let count = short(n, Unsaid::Count)?;
@@ -80,10 +82,7 @@ fn lay_one(nodes: &[Node], at: usize, order: &mut Vec<usize>) -> Result<Record, 
 }
 
 fn short(n: usize, what: Unsaid) -> Result<u16, LayoutError> {
-    match u16::try_from(n) {
-        Ok(n) => Ok(n),
-        Err(_) => Err(LayoutError::Unsaid(what)),
-    }
+    u16::try_from(n).map_err(|_| LayoutError::Unsaid(what))
 }
 
 // The first `width` parts of the holder `at` join the end of `order`.

@@ -12,8 +12,6 @@ mod run;
 mod show;
 mod spelling;
 
-use crate::job::JobError;
-use anyhow::anyhow;
 use std::io::Read;
 use std::process::ExitCode;
 use std::{env, fs, io};
@@ -34,21 +32,8 @@ fn ticket(rt: &HostRuntime) -> anyhow::Result<()> {
     let mut actions = Vec::new(rt.alloc());
     let read = job::read_job(rt, job.as_slice(), &mut actions);
     run::run(rt, actions.as_slice())?;
-    match read {
-        Ok(()) => Ok(()),
-        Err(JobError::Memory) => Err(anyhow!("no memory")),
-        Err(
-            JobError::Bad {
-                line,
-                column,
-                fault,
-            },
-        ) => {
-            let words = fault.words();
-            let message = format!(in rt.alloc(); "line {line}, column {column}: {words}")?;
-            Err(anyhow!(message))
-        }
-    }
+    read?;
+    Ok(())
 }
 
 fn read_input(rt: &HostRuntime) -> io::Result<Vec<u8>> {

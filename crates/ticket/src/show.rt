@@ -21,9 +21,7 @@ pub(crate) fn show(rt: &HostRuntime, tray: &Tray) -> io::Result<()> {
         return Ok(());
     };
     if count == 0 {
-        return rt
-            .stdout()
-            .write_all(b"show nothing: the tray has no names\n");
+        return println!(rt; "show nothing: the tray has no names");
     }
     for i in 0..count as usize {
         let key = first as usize + 2 * i;
@@ -50,15 +48,11 @@ fn entry_line(heap: Global, tray: &Tray, key: usize, value: usize) -> Result<Vec
 fn value_text(heap: Global, tray: &Tray, i: usize) -> Result<Vec<u8>, AllocError>
     ensures { IfOk result (λ v. v.items ≡ written (value_of tray.now i)) }
 {
-    let Some(len) = text_len(tray, i, usize::MAX) else {
-        return Err(AllocError);
-    };
+    let len = text_len(tray, i, usize::MAX).ok_or(AllocError)?;
     let mut text = Vec::new(heap);
     text.resize(len, 0)?;
-    match write_text(tray, i, text.as_mut_slice()) {
-        Some(_) => Ok(text),
-        None => Err(AllocError),
-    }
+    write_text(tray, i, text.as_mut_slice()).ok_or(AllocError)?;
+    Ok(text)
 }
 
 fn name_line(heap: Global, name: &[u8], kind: &str, text: &[u8]) -> Result<Vec<u8>, AllocError>
@@ -89,18 +83,13 @@ fn push_name(out: &mut Vec<u8>, text: &[u8]) -> Result<(), AllocError>
 fn is_name(text: &[u8]) -> bool
     ensures { result ≡ is_name text.now }
 {
-    text.len() > 0 && begins_name(text[0]) && all_go_on(text)
+    text.first().is_some_and(|b| begins_name(*b)) && all_go_on(text)
 }
 
 fn all_go_on(text: &[u8]) -> bool
     ensures { result ≡ all_go_on text.now }
 {
-    for b in text {
-        if !goes_on(*b) {
-            return false;
-        }
-    }
-    true
+    text.iter().all(|b| goes_on(*b))
 }
 
 fn begins_name(b: u8) -> bool

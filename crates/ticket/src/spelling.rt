@@ -7,6 +7,7 @@ use std::alloc::{AllocError, Global};
 use tray::records::Record;
 
 // The bytes of all records, one after another.
+#[tactic(auto, using(crate::proofs::Spells::read_as_written))]
 pub(crate) fn spell_all(heap: Global, records: &[Record]) -> Result<Vec<u8>, AllocError>
     ensures value { IfOk result (λ v. v.items ≡ all_spelt records.now) }
     ensures law { ReadAsWritten }

@@ -1,12 +1,13 @@
 //! The calls that a case can make, and their answers as text.
 
-use crate::words::{Wrong, hex, number, perhaps, size, text, word};
+use crate::words::{Wrong, hex, parsed, perhaps, text, word};
 use crate::{cutting, reading, sums};
 use numerals::{read_whole, write_whole};
 use rows::numbers::Numbers;
 use rows::row::Row;
 use rows::window::Window;
 use std::alloc::Global;
+use std::fmt::{Display, Write};
 use std::str::SplitWhitespace;
 use tray::records::OpenError;
 use tray::trays::Tray;
@@ -41,8 +42,8 @@ impl Calls {
             "cut" => cutting::cut(heap, text(&mut words)?),
             "tokens" => cutting::tokens(heap, text(&mut words)?),
             "open" => self.open(&mut words),
-            "nils" => nils(heap, size(&mut words)?),
-            "letters" => letters(heap, size(&mut words)?),
+            "nils" => nils(heap, parsed(&mut words)?),
+            "letters" => letters(heap, parsed(&mut words)?),
             _ => self.read(name, &mut words),
         }
     }
@@ -57,26 +58,24 @@ impl Calls {
     }
 
     fn read(&self, name: &str, words: &mut SplitWhitespace<'_>) -> Result<String, Wrong> {
-        match Tray::open(self.heap, self.records.as_slice(), self.cited.as_slice()) {
-            Ok(tray) => reading::answer(self.heap, &tray, name, words),
-            Err(_) => Err(Wrong::Case),
-        }
+        let tray = Tray::open(self.heap, self.records.as_slice(), self.cited.as_slice()).map_err(
+            |_| Wrong::Case,
+        )?;
+        reading::answer(self.heap, &tray, name, words)
     }
 }
 
-pub(crate) fn maybe(heap: Global, n: Option<i64>) -> Result<String, Wrong> {
-    match n {
-        Some(n) => Ok(format!(in heap; "{n}")?),
+pub(crate) fn maybe<T: Display + Drop>(heap: Global, value: Option<T>) -> Result<String, Wrong> {
+    match value {
+        Some(value) => Ok(format!(in heap; "{value}")?),
         None => Ok(String::from_str(heap, "none")?),
     }
 }
 
 // A length or `none`, and then the buffer.
 pub(crate) fn laid(heap: Global, end: Option<usize>, out: &[u8]) -> Result<String, Wrong> {
-    let mut answer = match end {
-        Some(end) => format!(in heap; "{end} ")?,
-        None => String::from_str(heap, "none ")?,
-    };
+    let mut answer = maybe(heap, end)?;
+    answer.push(' ')?;
     for b in out {
         answer.push(char::from(*b))?;
     }
@@ -84,16 +83,16 @@ pub(crate) fn laid(heap: Global, end: Option<usize>, out: &[u8]) -> Result<Strin
 }
 
 fn write(heap: Global, words: &mut SplitWhitespace<'_>) -> Result<String, Wrong> {
-    let n = number(words)?;
-    let mut out = vec![in heap; b'x'; size(words)?]?;
+    let n = parsed(words)?;
+    let mut out = vec![in heap; b'x'; parsed(words)?]?;
     let end = write_whole(n, out.as_mut_slice());
     laid(heap, end, out.as_slice())
 }
 
 // window FROM TO OFFSET LIMIT ORDER: the items of a window over counted numbers.
 fn window(heap: Global, words: &mut SplitWhitespace<'_>) -> Result<String, Wrong> {
-    let from = number(words)?;
-    let to = number(words)?;
+    let from = parsed(words)?;
+    let to = parsed(words)?;
     let Some(numbers) = Numbers::new(from, to) else {
         return Ok(String::from_str(heap, "too many")?);
     };
@@ -108,8 +107,7 @@ fn listed<R: Row<Item = i64>>(heap: Global, row: &R) -> Result<String, Wrong> {
     let mut answer = format!(in heap; "{count}:")?;
     for k in 0..count.min(5) {
         if let Some(item) = row.item(k) {
-            let next = format!(in heap; " {item}")?;
-            answer.push_str(next.as_str())?;
+            write!(answer, " {item}")?;
         }
     }
     Ok(answer)
@@ -128,19 +126,15 @@ fn counted(heap: Global, bytes: &[u8], cited: &[u8]) -> Result<String, Wrong> {
 
 // A tray whose one host name, the empty text, is an array of nils.
 fn nils(heap: Global, count: usize) -> Result<String, Wrong> {
-    let low = (count & 255) as u8;
-    let high = (count / 256 & 255) as u8;
+    let [low, high, ..] = count.to_le_bytes();
     let mut bytes = Vec::from_slice(heap, &[5, 1, 0, 1, 0, 3, 0, 0, 0, 0, 4, 3, 0, low, high])?;
-    for _ in 0..count {
-        bytes.push(0)?;
-    }
+    bytes.extend_from_slice(vec![in heap; 0; count]?.as_slice())?;
     counted(heap, bytes.as_slice(), b"")
 }
 
 // A tray with a text of that many letters.
 fn letters(heap: Global, count: usize) -> Result<String, Wrong> {
-    let low = (count & 255) as u8;
-    let high = (count / 256 & 255) as u8;
+    let [low, high, ..] = count.to_le_bytes();
     let cited = vec![in heap; b'a'; count]?;
     counted(heap, &[5, 0, 0, 0, 0, 3, 0, 0, low, high], cited.as_slice())
 }

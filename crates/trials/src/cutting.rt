@@ -5,16 +5,15 @@ use cutter::pieces::{Cutter, Piece};
 use cutter::state::Kind;
 use cutter::tokens::Cursor;
 use std::alloc::{AllocError, Global};
+use std::fmt::Write;
 
 fn push_part(
-    heap: Global,
     answer: &mut String,
-    place: usize,
     what: &str,
+    place: usize,
     bytes: &[u8],
 ) -> Result<(), AllocError> {
-    let head = format!(in heap; "{what} {place} ")?;
-    answer.push_str(head.as_str())?;
+    write!(answer, "{what} {place} ")?;
     for b in bytes {
         answer.push(char::from(*b))?;
     }
@@ -27,30 +26,16 @@ pub(crate) fn cut(heap: Global, part: &[u8]) -> Result<String, Wrong> {
     let mut cutter = Cutter::new(part);
     for _ in 0..part.len() {
         match cutter.next() {
-            Ok(Some(Piece::Text(place, bytes))) => push_part(
-                heap,
+            Ok(Some(Piece::Text(place, bytes))) => push_part(&mut answer, "text", place, bytes)?,
+            Ok(Some(Piece::Mark(kind, place, bytes))) => push_part(
                 &mut answer,
+                word_of(kind),
                 place,
-                "text",
-                bytes,
-            )?,
-            Ok(Some(Piece::Mark(Kind::Tag, place, bytes))) => push_part(
-                heap,
-                &mut answer,
-                place,
-                "tag",
-                bytes,
-            )?,
-            Ok(Some(Piece::Mark(Kind::Output, place, bytes))) => push_part(
-                heap,
-                &mut answer,
-                place,
-                "output",
                 bytes,
             )?,
             Ok(None) => break,
             Err(e) => {
-                push_part(heap, &mut answer, e.place, "unclosed", b"")?;
+                push_part(&mut answer, "unclosed", e.place, b"")?;
                 break;
             }
         }
@@ -59,16 +44,23 @@ pub(crate) fn cut(heap: Global, part: &[u8]) -> Result<String, Wrong> {
     Ok(answer)
 }
 
+fn word_of(kind: Kind) -> &'static str {
+    match kind {
+        Kind::Tag => "tag",
+        Kind::Output => "output",
+    }
+}
+
 // Each token with its place, and `end` or the place where there is none.
 pub(crate) fn tokens(heap: Global, inside: &[u8]) -> Result<String, Wrong> {
     let mut answer = String::new(heap);
     let mut cursor = Cursor::new(inside);
     for _ in 0..inside.len() {
         match cursor.next() {
-            Ok(Some(word)) => push_part(heap, &mut answer, word.place, "token", word.bytes)?,
+            Ok(Some(word)) => push_part(&mut answer, "token", word.place, word.bytes)?,
             Ok(None) => break,
             Err(e) => {
-                push_part(heap, &mut answer, e.place, "none", b"")?;
+                push_part(&mut answer, "none", e.place, b"")?;
                 break;
             }
         }

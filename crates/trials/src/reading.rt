@@ -1,7 +1,7 @@
 //! The calls on the tray that is open.
 
 use crate::calls::{laid, maybe};
-use crate::words::{Wrong, number, size, text};
+use crate::words::{Wrong, parsed, text};
 use equality::equal;
 use std::alloc::Global;
 use std::str::SplitWhitespace;
@@ -18,14 +18,14 @@ pub(crate) fn answer(
     call: &str,
     words: &mut SplitWhitespace<'_>,
 ) -> Result<String, Wrong> {
-    let record = size(words)?;
+    let record = parsed(words)?;
     match call {
-        "length" => sized(heap, text_len(tray, record, size(words)?)),
-        "text" => laid_text(heap, tray, record, size(words)?),
-        "find" => sized(heap, find(tray, record, text(words)?)),
-        "index" => came(heap, index(tray, record, number(words)?)),
+        "length" => maybe(heap, text_len(tray, record, parsed(words)?)),
+        "text" => laid_text(heap, tray, record, parsed(words)?),
+        "find" => maybe(heap, find(tray, record, text(words)?)),
+        "index" => came(heap, index(tray, record, parsed(words)?)),
         "name" => came(heap, named(tray, record, text(words)?)),
-        "equal" => yes_or_no(heap, equal(tray, record, size(words)?)),
+        "equal" => yes_or_no(heap, equal(tray, record, parsed(words)?)),
         _ => Err(Wrong::Case),
     }
 }
@@ -50,24 +50,15 @@ fn named(tray: &Tray, record: usize, name: &[u8]) -> Option<Found> {
 }
 
 fn yes_or_no(heap: Global, answer: bool) -> Result<String, Wrong> {
-    if answer {
-        Ok(String::from_str(heap, "yes")?)
-    } else {
-        Ok(String::from_str(heap, "no")?)
-    }
-}
-
-fn sized(heap: Global, n: Option<usize>) -> Result<String, Wrong> {
-    match n {
-        Some(n) => Ok(format!(in heap; "{n}")?),
-        None => maybe(heap, None),
-    }
+    let word = if answer { "yes" } else { "no" };
+    Ok(String::from_str(heap, word)?)
 }
 
 fn came(heap: Global, found: Option<Found>) -> Result<String, Wrong> {
-    match found {
-        Some(Found::Record(i)) => Ok(format!(in heap; "record {i}")?),
-        Some(Found::Size(n)) => Ok(format!(in heap; "size {n}")?),
-        None => maybe(heap, None),
-    }
+    let words = match found {
+        Some(Found::Record(i)) => Some(format!(in heap; "record {i}")?),
+        Some(Found::Size(n)) => Some(format!(in heap; "size {n}")?),
+        None => None,
+    };
+    maybe(heap, words)
 }

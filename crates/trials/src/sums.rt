@@ -39,10 +39,7 @@ impl<B: Bank> Bank for Counted<B> {
 }
 
 fn operand<'a>(bytes: &'a [u8]) -> Operand<'a> {
-    match Short::new(bytes) {
-        Some(t) => Operand::Text(t),
-        None => Operand::Nil,
-    }
+    Short::new(bytes).map_or(Operand::Nil, Operand::Text)
 }
 
 fn given<'a>(operand: Operand<'a>) -> Option<Operand<'a>> {

@@ -1,9 +1,11 @@
 //! The words of a case: numbers, texts between quotes, and bytes in hex.
 
+ghost use Rattle.std.specs.Prelude.{◌<◌, IfOk};
+
 use std::alloc::{AllocError, AllocFailed, Global};
 use std::error::Error;
 use std::fmt;
-use std::str::SplitWhitespace;
+use std::str::{FromStr, SplitWhitespace};
 
 /// Why a case cannot be run.
 #[derive(Clone, Copy, Debug)]
@@ -36,17 +38,15 @@ impl fmt::Display for Wrong {
 impl Error for Wrong {}
 
 pub(crate) fn word<'a>(words: &mut SplitWhitespace<'a>) -> Result<&'a str, Wrong> {
-    match words.next() {
-        Some(word) => Ok(word),
-        None => Err(Wrong::Case),
-    }
+    words.next().ok_or(Wrong::Case)
 }
 
-pub(crate) fn number(words: &mut SplitWhitespace<'_>) -> Result<i64, Wrong> {
-    match word(words)?.parse::<i64>() {
-        Ok(n) => Ok(n),
-        Err(_) => Err(Wrong::Case),
-    }
+// The value that the next word writes.
+pub(crate) fn parsed<T: FromStr>(words: &mut SplitWhitespace<'_>) -> Result<T, Wrong>
+where
+    T::Err: Drop,
+{
+    word(words)?.parse::<T>().map_err(|_| Wrong::Case)
 }
 
 // A number, or `none`.
@@ -54,28 +54,21 @@ pub(crate) fn perhaps(words: &mut SplitWhitespace<'_>) -> Result<Option<i64>, Wr
     Ok(word(words)?.parse::<i64>().ok())
 }
 
-pub(crate) fn size(words: &mut SplitWhitespace<'_>) -> Result<usize, Wrong> {
-    match word(words)?.parse::<usize>() {
-        Ok(n) => Ok(n),
-        Err(_) => Err(Wrong::Case),
-    }
-}
-
 // The bytes between two quotes.
 pub(crate) fn text<'a>(words: &mut SplitWhitespace<'a>) -> Result<&'a [u8], Wrong> {
-    let bytes = word(words)?.as_bytes();
-    let n = bytes.len();
-    if n < 2 || bytes[0] != b'\'' || bytes[n - 1] != b'\'' {
-        return Err(Wrong::Case);
+    match word(words)?.as_bytes() {
+        [b'\'', text @ .., b'\''] => Ok(text),
+        _ => Err(Wrong::Case),
     }
-    Ok(&bytes[1..n - 1])
 }
 
-fn nibble(b: u8) -> Option<u8> {
+fn nibble(b: u8) -> Result<u8, Wrong>
+    ensures { IfOk result (λ d. d < 16) }
+{
     match b {
-        b'0'..=b'9' => Some(b - b'0'),
-        b'a'..=b'f' => Some(b - b'a' + 10),
-        _ => None,
+        b'0'..=b'9' => Ok(b - b'0'),
+        b'a'..=b'f' => Ok(b - b'a' + 10),
+        _ => Err(Wrong::Case),
     }
 }
 
@@ -90,10 +83,7 @@ pub(crate) fn hex(heap: Global, words: &mut SplitWhitespace<'_>) -> Result<Vec<u
         let [a, b] = pair else {
             return Err(Wrong::Case);
         };
-        match (nibble(*a), nibble(*b)) {
-            (Some(high), Some(low)) => bytes.push((high & 15) * 16 + (low & 15))?,
-            _ => return Err(Wrong::Case),
-        }
+        bytes.push(nibble(*a)? * 16 + nibble(*b)?)?;
     }
     Ok(bytes)
 }

@@ -1,12 +1,12 @@
 // Values, rows and targets.
-ghost use Rattle.std.specs.Prelude.{◌≡◌, [], ◌∷◌, ◌++◌, length, OnOk};
+ghost use Rattle.std.specs.Prelude.{◌≡◌, []};
 ghost use Rattle.cutter.specs.Paths.{steps_of, steps_left, placed_step};
 ghost use Rattle.cutter.specs.Tokens.{token_of};
 ghost use Rattle.nodes.specs.Exprs.{head_of, expr_of, row_of};
 ghost use Rattle.arguments.specs.Judging.{seen};
 ghost use Rattle.arguments.specs.Values.{head, a_path, value_as, value, row_as, a_row, bare, read, new_name, target};
-ghost use Rattle.arguments.specs.Tables.{part_in, lists_of, pool_of, under, Said, Grown, Lies, Below};
-ghost use Rattle.arguments.specs.Reading.{Heads, Exprs, Rows, KeysIn, Stepped, Full, entry_of};
+ghost use Rattle.arguments.specs.Tables.{part_in, lists_of, pool_of, under, Said, Grown, Lies};
+ghost use Rattle.arguments.specs.Reading.{Heads, Exprs, Rows, Stepped, entry_of};
 
 use crate::reader::Reader;
 use crate::reader::lists::part_in;
@@ -42,46 +42,27 @@ impl<'a> Reader<'a> {
             Special::Forloop => Ok(Head::Forloop),
             Special::Tablerowloop => Ok(Head::Tablerowloop),
             Special::Barred => Err(Stop::Refused(Refusal::Reserved, place)),
-            Special::Free => match self.enter(place, name) {
-                Ok(k) => Ok(Head::Name(k)),
-                Err(e) => Err(e),
-            },
+            Special::Free => self.enter(place, name).map(Head::Name),
         }
     }
 
-    fn push_step(&mut self, step: Step) -> Result<(), Stop>
-        ensures added { OnOk result (self.new.steps.items ≡ self.old.steps.items ++ (step ∷ [])) }
-        ensures memory { Full result }
+    // The steps as written, the first at `at`, go into their table; what is refused has the place `place`.
+    fn push_steps(&mut self, place: usize, at: usize, steps: &'a [u8]) -> Result<Span, Stop>
+        requires lies { Lies self.old.source.now at steps.now }
+        ensures did { Stepped self.new (steps_of at steps.now) place result }
         ensures grown { Grown self.old self.new }
-        ensures same { lists_of self.new ≡ lists_of self.old }
-        ensures cursor { self.new.cursor ≡ self.old.cursor }
+        ensures same { under self.new ≡ under self.old }
     {
-        match self.steps.push(step) {
-            Ok(_) => Ok(()),
-            Err(_) => Err(Stop::Memory),
-        }
-    }
-
-    // The steps go into their table; false where there are more than `room`.
-    fn push_steps(&mut self, steps: &mut Steps<'a>, room: usize) -> Result<bool, Stop>
-        requires keys { KeysIn self.old.source.now (steps_left steps.old) }
-        ensures did { Stepped self.old self.new (steps_left steps.old) room result }
-        ensures grown { Grown self.old self.new }
-        ensures same { lists_of self.new ≡ lists_of self.old }
-        ensures cursor { self.new.cursor ≡ self.old.cursor }
-    {
-        match steps.next() {
-            None => Ok(true),
-            Some(step) => {
-                if room == 0 {
-                    return Ok(false);
-                }
-                match self.push_step(step_of(step)) {
-                    Ok(_) => self.push_steps(steps, room - 1),
-                    Err(e) => Err(e),
-                }
+        let from = self.steps.len();
+        let mut walk = Steps::new(at, steps);
+        while let Some(step) = walk.next() {
+            if self.steps.len() - from == STEPS {
+                return Err(Stop::Refused(Refusal::Limit, place));
             }
+            self.steps.push(step_of(step))?;
         }
+        let count = self.steps.len() - from;
+        Ok(Span { from, count })
     }
 
     // A path, judged at `place`: its first name, and its steps as written, the first at `at`.
@@ -90,21 +71,9 @@ impl<'a> Reader<'a> {
         ensures says { Said result (a_path place (part_in self.old.source.now name) (steps_of at steps.now) (under self.old)) (Exprs (pool_of self.new)) (under self.new) }
         ensures grown { Grown self.old self.new }
     {
-        let from = self.steps.len();
-        let mut walk = Steps::new(at, steps);
-        match self.push_steps(&mut walk, STEPS) {
-            Ok(few) => {
-                if !few {
-                    return Err(Stop::Refused(Refusal::Limit, place));
-                }
-                let count = self.steps.len() - from;
-                match self.head(place, name) {
-                    Ok(head) => Ok(Expr::Path(head, Span { from, count })),
-                    Err(e) => Err(e),
-                }
-            }
-            Err(e) => Err(e),
-        }
+        let steps = self.push_steps(place, at, steps)?;
+        let head = self.head(place, name)?;
+        Ok(Expr::Path(head, steps))
     }
 
     // A path without steps.
@@ -112,13 +81,12 @@ impl<'a> Reader<'a> {
         ensures says { Said result (a_path place (part_in self.old.source.now name) [] (under self.old)) (Exprs (pool_of self.new)) (under self.new) }
         ensures grown { Grown self.old self.new }
     {
-        match self.head(place, name) {
-            Ok(head) => Ok(Expr::Path(head, Span { from: 0, count: 0 })),
-            Err(e) => Err(e),
-        }
+        let head = self.head(place, name)?;
+        Ok(Expr::Path(head, Span { from: 0, count: 0 }))
     }
 
     // The value that a token is, judged at `place`.
+    #[tactic(auto, unfolding(crate::specs::Values::value_as, nodes::specs::Exprs::expr_of))]
     fn value_as(&mut self, place: usize, word: Word<'a>) -> Result<Expr, Stop>
         requires lies { Lies self.old.source.now word.place word.bytes.now }
         ensures says { Said result (value_as place word.entry.place (token_of word.entry.place word.entry.bytes.now) (under self.old)) (Exprs (pool_of self.new)) (under self.new) }
@@ -149,19 +117,17 @@ impl<'a> Reader<'a> {
                 at + n.len(),
                 steps,
             ),
-            Token::Range(_, _) => Err(Stop::Refused(Refusal::Argument, place)),
-            Token::Symbol(_) => Err(Stop::Refused(Refusal::Argument, place)),
+            Token::Range(_, _) | Token::Symbol(_) => Err(Stop::Refused(Refusal::Argument, place)),
         }
     }
 
     /// A value.
+    #[tactic(auto, using(crate::proofs::Chaining::said_went, crate::proofs::Chaining::refuses_went), unfolding(crate::specs::Values::value))]
     pub fn value(&mut self) -> Result<Expr, Stop>
         ensures says { Said result (value self.old.mark (under self.old)) (Exprs (pool_of self.new)) (under self.new) }
         ensures grown { Grown self.old self.new }
     {
-        match self.word() {
-            Ok(word) => self.value_as(word.place, word),
-            Err(e) => Err(e),
-        }
+        let word = self.word()?;
+        self.value_as(word.place, word)
     }
 }

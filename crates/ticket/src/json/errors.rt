@@ -1,8 +1,9 @@
 //! Why a text is not read as JSON.
 
 use std::alloc::{AllocError, AllocFailed};
+use std::fmt;
 
-#[derive(Clone, Copy)]
+#[derive(Clone, Copy, Debug)]
 pub(crate) enum Fault {
     Ended,
     NotJson,
@@ -23,9 +24,9 @@ pub(crate) enum Fault {
     LeftOver,
 }
 
-impl Fault {
-    pub(crate) fn words(self) -> &'static str {
-        match self {
+impl fmt::Display for Fault {
+    fn fmt<W: fmt::Write>(&self, f: &mut fmt::Formatter<W>) -> fmt::Result {
+        f.write_str(match self {
             Fault::Ended => "the JSON ends too soon",
             Fault::NotJson => "this is not JSON",
             Fault::NoValue => "a value is wanted here",
@@ -43,7 +44,7 @@ impl Fault {
             Fault::Hex => "a hexadecimal digit is wanted here",
             Fault::Surrogate => "a surrogate stands alone",
             Fault::LeftOver => "something is left over",
-        }
+        })
     }
 }
 

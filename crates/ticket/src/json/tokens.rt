@@ -4,7 +4,7 @@ ghost use Rattle.std.specs.Prelude.{◌≡◌, ◌+◌, ◌<◌, ◌≤◌, leng
 
 use crate::cursor::Cursor;
 use crate::json::errors::{Fault, JsonError};
-use crate::json::tree::{Kind, Token};
+use crate::json::tree::{Holder, Kind, Part, Token};
 use numerals::read_whole;
 
 impl<'a> Cursor<'a> {
@@ -17,10 +17,10 @@ impl<'a> Cursor<'a> {
             return Ok(Token::Leaf(Kind::Whole(self.number()?)));
         }
         match self.take() {
-            Some(b'[') => Ok(Token::OpenArray),
-            Some(b']') => Ok(Token::CloseArray),
-            Some(b'{') => Ok(Token::OpenObject),
-            Some(b'}') => Ok(Token::CloseObject),
+            Some(b'[') => Ok(Token::Open(Holder::Array)),
+            Some(b']') => Ok(Token::Close(Holder::Array)),
+            Some(b'{') => Ok(Token::Open(Holder::Object)),
+            Some(b'}') => Ok(Token::Close(Holder::Object)),
             Some(b',') => Ok(Token::Comma),
             Some(b':') => Ok(Token::Colon),
             Some(b'"') => Ok(Token::Leaf(self.text(texts)?)),
@@ -36,24 +36,11 @@ impl<'a> Cursor<'a> {
     fn constant(&mut self, at: usize, rest: &[u8], kind: Kind) -> Result<Token, JsonError>
         ensures { length self.new.rest.now ≤ length self.old.rest.now }
     {
-        for b in rest {
-            if !self.take_if(*b) {
-                return Err(JsonError::Bad(at, Fault::NotJson));
-            }
+        if self.take_all(rest) {
+            Ok(Token::Leaf(kind))
+        } else {
+            Err(JsonError::Bad(at, Fault::NotJson))
         }
-        Ok(Token::Leaf(kind))
-    }
-
-    // How many digits stand here; they are taken.
-    fn digits(&mut self) -> usize
-        ensures { length self.new.rest.now + result ≡ length self.old.rest.now }
-    {
-        let mut n = 0;
-        while let Some(b'0'..=b'9') = self.peek() {
-            self.take();
-            n += 1;
-        }
-        n
     }
 
     fn number(&mut self) -> Result<i64, JsonError>
@@ -63,7 +50,7 @@ impl<'a> Cursor<'a> {
         let from = self.rest();
         self.take_if(b'-');
         let first = self.peek();
-        let count = self.digits();
+        let count = self.take_while(|b| b.is_ascii_digit()).len();
         if count == 0 {
             return Err(JsonError::Bad(self.at(), Fault::NoDigit));
         }
@@ -74,10 +61,7 @@ impl<'a> Cursor<'a> {
             return Err(JsonError::Bad(self.at(), Fault::Fraction));
         }
         let len = from.len() - self.rest().len();
-        match read_whole(&from[0..len]) {
-            Some(n) => Ok(n),
-            None => Err(JsonError::Bad(at, Fault::Large)),
-        }
+        read_whole(&from[0..len]).ok_or(JsonError::Bad(at, Fault::Large))
     }
 
     // The text behind an opening quote.
@@ -95,7 +79,10 @@ impl<'a> Cursor<'a> {
                 Some(b) => texts.push(b)?,
             }
         }
-        Ok(Kind::Text(place, texts.len() - place))
+        Ok(Kind::Text(Part {
+            place,
+            len: texts.len() - place,
+        }))
     }
 
     // What stands behind a backslash at the place `at`.

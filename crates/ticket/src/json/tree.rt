@@ -3,13 +3,20 @@
 use crate::json::errors::{Fault, JsonError};
 use std::alloc::Global;
 
-// A value. A text is a part of a side buffer: its place and length. A holder tells its number of items or entries.
+// A part of a buffer of texts.
+#[derive(Clone, Copy)]
+pub(crate) struct Part {
+    pub(crate) place: usize,
+    pub(crate) len: usize,
+}
+
+// A value. A text is a part of a side buffer. A holder tells its number of items or entries.
 #[derive(Clone, Copy)]
 pub(crate) enum Kind {
     Nil,
     Flag(bool),
     Whole(i64),
-    Text(usize, usize),
+    Text(Part),
     Array(usize),
     Object(usize),
 }
@@ -22,6 +29,7 @@ pub(crate) struct Node {
 }
 
 // Node 0 is the whole; the parts of a holder follow it, those of an object as key, value, key, value.
+// The list is flat, and no tree of boxes, so that a text nested to any depth is read, laid out and dropped without recursion.
 #[derive(Drop)]
 pub(crate) struct Json {
     pub(crate) nodes: Vec<Node>,
@@ -30,19 +38,52 @@ pub(crate) struct Json {
 
 impl Json {
     pub(crate) fn is_object(&self) -> bool {
-        match self.nodes.first() {
-            Some(node) => matches!(node.kind, Kind::Object(_)),
-            None => false,
+        matches!(
+            self.nodes.first(),
+            Some(Node {
+                kind: Kind::Object(_),
+                ..
+            })
+        )
+    }
+}
+
+#[derive(Clone, Copy, PartialEq, Eq)]
+pub(crate) enum Holder {
+    Array,
+    Object,
+}
+
+impl Holder {
+    // What may come behind its opening bracket.
+    fn inside(self) -> Want {
+        match self {
+            Holder::Array => Want::ItemOrEnd,
+            Holder::Object => Want::KeyOrEnd,
+        }
+    }
+
+    // What may come behind a comma in it.
+    fn after_comma(self) -> Want {
+        match self {
+            Holder::Array => Want::Value,
+            Holder::Object => Want::Key,
+        }
+    }
+
+    // One with so many items or entries.
+    fn of(self, count: usize) -> Kind {
+        match self {
+            Holder::Array => Kind::Array(count),
+            Holder::Object => Kind::Object(count),
         }
     }
 }
 
 #[derive(Clone, Copy)]
 pub(crate) enum Token {
-    OpenArray,
-    CloseArray,
-    OpenObject,
-    CloseObject,
+    Open(Holder),
+    Close(Holder),
     Comma,
     Colon,
     Leaf(Kind),
@@ -81,7 +122,7 @@ impl Want {
 #[derive(Clone, Copy)]
 struct Open {
     node: usize,
-    is_object: bool,
+    holder: Holder,
     count: usize,
 }
 
@@ -108,16 +149,21 @@ impl Tree {
     // Takes the token at the place `at`, and tells what may come next.
     pub(crate) fn place(&mut self, at: usize, want: Want, token: Token) -> Result<Want, JsonError> {
         match (want, token) {
-            (Want::Value | Want::ItemOrEnd, Token::OpenArray) => self.begin(false),
-            (Want::Value | Want::ItemOrEnd, Token::OpenObject) => self.begin(true),
+            (Want::Value | Want::ItemOrEnd, Token::Open(holder)) => self.begin(holder),
             (Want::Value | Want::ItemOrEnd, Token::Leaf(kind)) => self.leaf(kind),
-            (Want::KeyOrEnd | Want::Key, Token::Leaf(Kind::Text(place, len))) => self.key(
-                place, len,
-            ),
+            (Want::KeyOrEnd | Want::Key, Token::Leaf(Kind::Text(key))) => self.key(key),
             (Want::Colon, Token::Colon) => Ok(Want::Value),
             (Want::CommaOrEnd, Token::Comma) => Ok(self.after_comma()),
-            (Want::ItemOrEnd | Want::CommaOrEnd, Token::CloseArray) => self.close(at, want, false),
-            (Want::KeyOrEnd | Want::CommaOrEnd, Token::CloseObject) => self.close(at, want, true),
+            (Want::ItemOrEnd | Want::CommaOrEnd, Token::Close(Holder::Array)) => self.close(
+                at,
+                want,
+                Holder::Array,
+            ),
+            (Want::KeyOrEnd | Want::CommaOrEnd, Token::Close(Holder::Object)) => self.close(
+                at,
+                want,
+                Holder::Object,
+            ),
             _ => Err(JsonError::Bad(at, want.fault())),
         }
     }
@@ -131,18 +177,14 @@ impl Tree {
         Ok(node)
     }
 
-    fn begin(&mut self, is_object: bool) -> Result<Want, JsonError> {
+    fn begin(&mut self, holder: Holder) -> Result<Want, JsonError> {
         let node = self.push(Kind::Nil)?;
         self.open.push(Open {
             node,
-            is_object,
+            holder,
             count: 0,
         })?;
-        Ok(if is_object {
-            Want::KeyOrEnd
-        } else {
-            Want::ItemOrEnd
-        })
+        Ok(holder.inside())
     }
 
     fn leaf(&mut self, kind: Kind) -> Result<Want, JsonError> {
@@ -150,8 +192,8 @@ impl Tree {
         Ok(self.counted())
     }
 
-    fn key(&mut self, place: usize, len: usize) -> Result<Want, JsonError> {
-        self.push(Kind::Text(place, len))?;
+    fn key(&mut self, key: Part) -> Result<Want, JsonError> {
+        self.push(Kind::Text(key))?;
         Ok(Want::Colon)
     }
 
@@ -168,32 +210,23 @@ impl Tree {
 
     fn after_comma(&self) -> Want {
         match self.open.last() {
-            Some(holder) => {
-                if holder.is_object {
-                    Want::Key
-                } else {
-                    Want::Value
-                }
-            }
+            Some(open) => open.holder.after_comma(),
             None => Want::Over,
         }
     }
 
-    fn close(&mut self, at: usize, want: Want, is_object: bool) -> Result<Want, JsonError> {
-        let Some(holder) = self.open.pop() else {
-            return Err(JsonError::Bad(at, want.fault()));
-        };
-        if holder.is_object != is_object {
-            return Err(JsonError::Bad(at, want.fault()));
-        }
-        let kind = if is_object {
-            Kind::Object(holder.count)
-        } else {
-            Kind::Array(holder.count)
-        };
+    fn close(&mut self, at: usize, want: Want, holder: Holder) -> Result<Want, JsonError> {
+        let open = self
+            .open
+            .pop()
+            .filter(|open| open.holder == holder)
+            .ok_or(JsonError::Bad(at, want.fault()))?;
         let next = self.nodes.len();
-        if let Some(node) = self.nodes.get_mut(holder.node) {
-            *node = Node { kind, next };
+        if let Some(node) = self.nodes.get_mut(open.node) {
+            *node = Node {
+                kind: holder.of(open.count),
+                next,
+            };
         }
         Ok(self.counted())
     }

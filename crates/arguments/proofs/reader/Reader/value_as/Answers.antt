@@ -1,12 +1,9 @@
-use Rattle.std.proofs.Common.{◌≡◌, ◌+◌, w64, SFits, Some, [], length, sym, refl, ap, ◌∙◌, subst}
+use Rattle.std.proofs.Common.{rules, ◌≡◌, ◌+◌, Some, [], length, sym, refl, ap, ◌∙◌, subst}
 use Rattle.std.specs.Option.{option_map}
-use Rattle.std.proofs.lemmas.Int.{to_z-of_z}
 use Rattle.cutter.specs.Paths.{steps_of}
 use Rattle.cutter.specs.Tokens.{token_of, Parts}
-use Rattle.tree.specs.Expressions.{nil_literal, boolean_literal, number_literal, text_literal}
+use Rattle.tree.specs.Expressions.{boolean_literal, number_literal, text_literal}
 use Rattle.nodes.specs.Exprs.{expr_of}
-use Rattle.nodes.proofs.Options.{front_refl}
-use Rattle.nodes.proofs.Widens.{wider_refl}
 use Rattle.arguments.specs.Values.{a_path, value_as}
 use Rattle.arguments.specs.Tables.{part_in, pool_of, under}
 use Rattle.arguments.specs.Reading.{Exprs}
@@ -14,43 +11,28 @@ use Rattle.arguments.proofs.Chaining.{part_bytes, said_same}
 use Rattle.arguments.proofs.Lying.{lies_text, lies_front, lies_back}
 use Rattle.arguments.proofs.reader.Reader.value_as.Goals as goal
 
-pub returns-in-Nil : goal.returns-in-Nil
+pub returns-in-Boolean-clause-says : goal.returns-in-Boolean-clause-says
 unfolding value_as expr_of
-returns-in-Nil c =
-    let d = c.args.self.now in
-    record { says = (nil_literal, refl, ap (λ t. value_as c.args.place c.args.word.place t (under d)) (sym c.in-Nil.ensures.reads)); grown = record { pool = wider_refl (pool_of d); names = front_refl _; cycles = front_refl _; nodes = refl; mark = refl } }
+returns-in-Boolean-clause-says c = (boolean_literal c.in-Boolean.b, refl, ap (λ t. value_as c.args.place c.args.word.place t (under c.args.self.now)) (sym c.in-Boolean.ensures.reads))
 
-pub returns-in-Boolean : goal.returns-in-Boolean
+pub returns-in-Number-clause-says : goal.returns-in-Number-clause-says
 unfolding value_as expr_of
-returns-in-Boolean c =
-    let d = c.args.self.now in
-    record { says = (boolean_literal c.in-Boolean.b, refl, ap (λ t. value_as c.args.place c.args.word.place t (under d)) (sym c.in-Boolean.ensures.reads)); grown = record { pool = wider_refl (pool_of d); names = front_refl _; cycles = front_refl _; nodes = refl; mark = refl } }
+returns-in-Number-clause-says c = (number_literal c.in-Number.n, ap (λ z. Some (number_literal z)) (search rules), ap (λ t. value_as c.args.place c.args.word.place t (under c.args.self.now)) (sym c.in-Number.ensures.reads))
 
-pub returns-in-Number : goal.returns-in-Number
+pub returns-in-Text-clause-says : goal.returns-in-Text-clause-says
 unfolding value_as expr_of
-returns-in-Number c =
-    let d = c.args.self.now in
-    let h = rw c.in-Number.is at c.token.type_inv in
-    let f : SFits w64 c.in-Number.n = record { sfits = h.1.1.1.1.0.1 } in
-    record { says = (number_literal c.in-Number.n, ap (λ z. Some (number_literal z)) (to_z-of_z w64 c.in-Number.n f), ap (λ t. value_as c.args.place c.args.word.place t (under d)) (sym c.in-Number.ensures.reads)); grown = record { pool = wider_refl (pool_of d); names = front_refl _; cycles = front_refl _; nodes = refl; mark = refl } }
-
-pub returns-in-Text : goal.returns-in-Text
-unfolding value_as expr_of
-returns-in-Text c =
+returns-in-Text-clause-says c =
     let d = c.args.self.now in
     let p = c.args.word.place in
     let bs = c.args.word.bytes.now in
     let t = c.in-Text.t.now in
     let e = c.in-Text.ensures in
     let (fits, is) = subst (Parts p bs) (sym e.reads) (e.parts p bs) in
-    record {
-      says = (text_literal t, ap (option_map text_literal) (part_bytes d.source.now (p + 1) t (lies_text d.source.now p bs c.requires.lies t fits is)), ap (λ r. value_as c.args.place p r (under d)) (sym e.reads));
-      grown = record { pool = wider_refl (pool_of d); names = front_refl _; cycles = front_refl _; nodes = refl; mark = refl };
-    }
+    (text_literal t, ap (option_map text_literal) (part_bytes d.source.now (p + 1) t (lies_text d.source.now p bs c.requires.lies t fits is)), ap (λ r. value_as c.args.place p r (under d)) (sym e.reads))
 
-pub returns-in-Name : goal.returns-in-Name
+pub returns-in-Name-clause-says : goal.returns-in-Name-clause-says
 unfolding value_as
-returns-in-Name c =
+returns-in-Name-clause-says c =
     let d = c.args.self.now in
     let p = c.args.word.place in
     let bs = c.args.word.bytes.now in
@@ -58,10 +40,7 @@ returns-in-Name c =
     let e = c.in-Name.ensures in
     let is = subst (Parts p bs) (sym e.reads) (e.parts p bs) in
     let spelt : n ≡ part_in d.source.now (record { place = p; len = length n }) = is ∙ c.requires.lies.is ∙ ap (λ b. part_in d.source.now (record { place = p; len = length b })) (sym is) in
-    record {
-      says = said_same c.bare_path.result (a_path c.args.place (part_in d.source.now (record { place = p; len = length n })) [] (under d)) (value_as c.args.place p (token_of p bs) (under d)) (Exprs (pool_of c.bare_path.new.self)) (under c.bare_path.new.self) (ap (λ r. value_as c.args.place p r (under d)) (sym e.reads) ∙ ap (λ x. a_path c.args.place x [] (under d)) spelt) c.bare_path.ensures.says;
-      grown = c.bare_path.ensures.grown;
-    }
+    said_same c.bare_path.result (a_path c.args.place (part_in d.source.now (record { place = p; len = length n })) [] (under d)) (value_as c.args.place p (token_of p bs) (under d)) (Exprs (pool_of c.bare_path.new.self)) (under c.bare_path.new.self) (ap (λ r. value_as c.args.place p r (under d)) (sym e.reads) ∙ ap (λ x. a_path c.args.place x [] (under d)) spelt) c.bare_path.ensures.says
 
 pub path-requires : goal.path-requires
 path-requires c =
@@ -70,9 +49,9 @@ path-requires c =
     let e = c.in-Path.ensures in
     record { lies = lies_back c.args.self.now.source.now p bs c.requires.lies c.in-Path.n.now c.in-Path.steps.now (subst (Parts p bs) (sym e.reads) (e.parts p bs)) }
 
-pub returns-in-Path : goal.returns-in-Path
+pub returns-in-Path-clause-says : goal.returns-in-Path-clause-says
 unfolding value_as
-returns-in-Path c =
+returns-in-Path-clause-says c =
     let d = c.args.self.now in
     let p = c.args.word.place in
     let bs = c.args.word.bytes.now in
@@ -81,19 +60,4 @@ returns-in-Path c =
     let e = c.in-Path.ensures in
     let is = subst (Parts p bs) (sym e.reads) (e.parts p bs) in
     let spelt : n ≡ part_in d.source.now (record { place = p; len = length n }) = (lies_front d.source.now p bs c.requires.lies n c.in-Path.steps.now is).is in
-    record {
-      says = said_same c.path.result (a_path c.args.place (part_in d.source.now (record { place = p; len = length n })) ss (under d)) (value_as c.args.place p (token_of p bs) (under d)) (Exprs (pool_of c.path.new.self)) (under c.path.new.self) (ap (λ r. value_as c.args.place p r (under d)) (sym e.reads) ∙ ap (λ x. a_path c.args.place x ss (under d)) spelt) c.path.ensures.says;
-      grown = c.path.ensures.grown;
-    }
-
-pub returns-in-Range : goal.returns-in-Range
-unfolding value_as
-returns-in-Range c =
-    let d = c.args.self.now in
-    record { says = ap (λ t. value_as c.args.place c.args.word.place t (under d)) (sym c.in-Range.ensures.reads); grown = record { pool = wider_refl (pool_of d); names = front_refl _; cycles = front_refl _; nodes = refl; mark = refl } }
-
-pub returns-in-Symbol : goal.returns-in-Symbol
-unfolding value_as
-returns-in-Symbol c =
-    let d = c.args.self.now in
-    record { says = ap (λ t. value_as c.args.place c.args.word.place t (under d)) (sym c.in-Symbol.ensures.reads); grown = record { pool = wider_refl (pool_of d); names = front_refl _; cycles = front_refl _; nodes = refl; mark = refl } }
+    said_same c.path.result (a_path c.args.place (part_in d.source.now (record { place = p; len = length n })) ss (under d)) (value_as c.args.place p (token_of p bs) (under d)) (Exprs (pool_of c.path.new.self)) (under c.path.new.self) (ap (λ r. value_as c.args.place p r (under d)) (sym e.reads) ∙ ap (λ x. a_path c.args.place x ss (under d)) spelt) c.path.ensures.says
