@@ -1,8 +1,10 @@
 -- What is written for a record is what the format says of it.
-use Rattle.std.proofs.Common.{◌≡◌, ℕ, suc, ◌+◌, ◌*◌, ◌/◌, ◌%◌, ◌<◌, ◌≤◌, true, false, [], ◌∷◌, sym, ap, ◌∙◌, subst, arith, to_z-of_z, w64, SFits, to_z, of_z}
+use Rattle.std.proofs.Common.{◌≡◌, ℕ, suc, ◌+◌, ◌*◌, ◌/◌, ◌%◌, ◌<◌, ◌≤◌, true, false, [], ◌∷◌, sym, ap, ap₂, ◌∙◌, subst, arith, to_z-of_z, w64, SFits, to_z, of_z}
 use native.Mathlib.Nat.{mod-add-div}
 use mir.Facts.{Fits-of_z}
 use Rattle.tray.specs.Format.{little, RecordBytes, a_nil, a_false, a_true, a_whole, a_text, an_array, an_object, none, more}
+use Rattle.tray.specs.declared.records.Span.{Span}
+use Rattle.tray.specs.Parts.{span}
 use Rattle.tray.specs.declared.records.Record.{Record}
 use Rattle.tray.specs.declared.records.Record.TheVariants.{Nil, Boolean, Whole, Text, Array, Object}
 use Rattle.ticket.specs.Spelling.{low_first, spelt, Sayable, ReadAsWritten}
@@ -33,30 +35,31 @@ whole_spelt room z f =
     let fits : of_z w64 z < 18446744073709551616 = omega (arith, Fits-of_z f) in
     subst (λ x. RecordBytes room (2 ∷ bytes) (Whole x)) (ap (to_z w64) (eight_bytes (of_z w64 z) fits) ∙ to_z-of_z f) (a_whole _ _ _ _ _ _ _ _)
 
-text_spelt : (room p n : ℕ) → Sayable room (Text p n) → RecordBytes room (spelt (Text p n)) (Text p n)
-text_spelt room p n s =
-    let ep = two_bytes p s.0 in
-    let en = two_bytes n (omega arith) in
-    let short : little (low_first 2 n) ≤ 256 = subst (λ x. x ≤ 256) (sym en) s.1 in
-    let inside : little (low_first 2 p) + little (low_first 2 n) ≤ room = omega (arith, ep, en) in
-    subst (λ x. RecordBytes room (spelt (Text p n)) (Text x n)) ep (subst (λ y. RecordBytes room (spelt (Text p n)) (Text (little (low_first 2 p)) y)) en (a_text _ _ _ _ short inside))
+span_back : (s : Span) → s.first < 65536 → s.count < 65536 → span (little (low_first 2 s.first)) (little (low_first 2 s.count)) ≡ s
+span_back s f n = ap₂ span (two_bytes s.first f) (two_bytes s.count n)
 
-array_spelt : (room f n : ℕ) → Sayable room (Array f n) → RecordBytes room (spelt (Array f n)) (Array f n)
-array_spelt room f n s =
-    subst (λ x. RecordBytes room (spelt (Array f n)) (Array x n)) (two_bytes f s.0) (subst (λ y. RecordBytes room (spelt (Array f n)) (Array (little (low_first 2 f)) y)) (two_bytes n s.1) (an_array _ _ _ _))
+text_spelt : (room : ℕ) (s : Span) → Sayable room (Text s) → RecordBytes room (spelt (Text s)) (Text s)
+text_spelt room s h =
+    let ep = two_bytes s.first h.0 in
+    let en = two_bytes s.count (omega arith) in
+    let short : little (low_first 2 s.count) ≤ 256 = subst (λ x. x ≤ 256) (sym en) h.1 in
+    let inside : little (low_first 2 s.first) + little (low_first 2 s.count) ≤ room = omega (arith, ep, en) in
+    subst (λ x. RecordBytes room (spelt (Text s)) (Text x)) (span_back s h.0 (omega arith)) (a_text _ _ _ _ short inside)
 
-object_spelt : (room f n : ℕ) → Sayable room (Object f n) → RecordBytes room (spelt (Object f n)) (Object f n)
-object_spelt room f n s =
-    subst (λ x. RecordBytes room (spelt (Object f n)) (Object x n)) (two_bytes f s.0) (subst (λ y. RecordBytes room (spelt (Object f n)) (Object (little (low_first 2 f)) y)) (two_bytes n s.1) (an_object _ _ _ _))
+array_spelt : (room : ℕ) (s : Span) → Sayable room (Array s) → RecordBytes room (spelt (Array s)) (Array s)
+array_spelt room s h = subst (λ x. RecordBytes room (spelt (Array s)) (Array x)) (span_back s h.0 h.1) (an_array _ _ _ _)
+
+object_spelt : (room : ℕ) (s : Span) → Sayable room (Object s) → RecordBytes room (spelt (Object s)) (Object s)
+object_spelt room s h = subst (λ x. RecordBytes room (spelt (Object s)) (Object x)) (span_back s h.0 h.1) (an_object _ _ _ _)
 
 one_spelt : (room : ℕ) (r : Record) → Sayable room r → RecordBytes room (spelt r) r
 one_spelt room Nil s = a_nil
 one_spelt room (Boolean true) s = a_true
 one_spelt room (Boolean false) s = a_false
 one_spelt room (Whole z) s = whole_spelt room z s
-one_spelt room (Text p n) s = text_spelt room p n s
-one_spelt room (Array f n) s = array_spelt room f n s
-one_spelt room (Object f n) s = object_spelt room f n s
+one_spelt room (Text t) s = text_spelt room t s
+one_spelt room (Array t) s = array_spelt room t s
+one_spelt room (Object t) s = object_spelt room t s
 
 pub read_as_written : ReadAsWritten
 read_as_written room [] s = none

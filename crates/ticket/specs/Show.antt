@@ -13,9 +13,9 @@ abbrev pub kind_word : Record → List ℕ
 kind_word Nil = codes "nil"
 kind_word (Boolean b) = codes "boolean"
 kind_word (Whole z) = codes "number"
-kind_word (Text p n) = codes "text"
-kind_word (Array f n) = codes "array"
-kind_word (Object f n) = codes "object"
+kind_word (Text s) = codes "text"
+kind_word (Array s) = codes "array"
+kind_word (Object s) = codes "object"
 
 -- a name stands bare, any other text in quotes
 abbrev pub shown_name : List ℕ → List ℕ

@@ -20,9 +20,9 @@ abbrev pub spelt : Record → List ℕ
 spelt Nil = 0 ∷ []
 spelt (Boolean b) = 1 ∷ (cond b 1 0 ∷ [])
 spelt (Whole z) = 2 ∷ low_first 8 (of_z w64 z)
-spelt (Text p n) = pair_spelt 3 p n
-spelt (Array f n) = pair_spelt 4 f n
-spelt (Object f n) = pair_spelt 5 f n
+spelt (Text s) = pair_spelt 3 s.first s.count
+spelt (Array s) = pair_spelt 4 s.first s.count
+spelt (Object s) = pair_spelt 5 s.first s.count
 
 abbrev pub all_spelt : List Record → List ℕ
 all_spelt rs = flat_map spelt rs
@@ -32,9 +32,9 @@ abbrev pub Sayable : ℕ → Record → Type 0
 Sayable room Nil = Unit {0}
 Sayable room (Boolean b) = Unit {0}
 Sayable room (Whole z) = FitsSigned w64 z
-Sayable room (Text p n) = (p < 65536) × (n ≤ 256) × (p + n ≤ room)
-Sayable room (Array f n) = (f < 65536) × (n < 65536)
-Sayable room (Object f n) = (f < 65536) × (n < 65536)
+Sayable room (Text s) = (s.first < 65536) × (s.count ≤ 256) × (s.first + s.count ≤ room)
+Sayable room (Array s) = (s.first < 65536) × (s.count < 65536)
+Sayable room (Object s) = (s.first < 65536) × (s.count < 65536)
 
 -- the bytes that are written for records are, to who opens a tray, those of the same records
 abbrev pub ReadAsWritten : Type 0

@@ -3,7 +3,7 @@
 use crate::json::tree::{Json, Kind, Node};
 use std::alloc::{AllocFailed, Global};
 use std::fmt;
-use tray::records::Record;
+use tray::records::{Record, Span};
 
 // What a record cannot say: each of its numbers has two bytes.
 #[derive(Clone, Copy)]
@@ -64,19 +64,21 @@ fn lay_one(nodes: &[Node], at: usize, order: &mut Vec<usize>) -> Result<Record, 
         Kind::Nil => Ok(Record::Nil),
         Kind::Flag(b) => Ok(Record::Boolean(b)),
         Kind::Whole(n) => Ok(Record::Whole(n)),
-        Kind::Text(part) => Ok(Record::Text(
-            short(part.place, Unsaid::Place)?,
-            short(part.len, Unsaid::Length)?,
-        )),
+        Kind::Text(part) => Ok(Record::Text(Span {
+            first: short(part.place, Unsaid::Place)?,
+            count: short(part.len, Unsaid::Length)?,
+        })),
         Kind::Array(n) => {
             let count = short(n, Unsaid::Count)?;
             join_parts(nodes, at, count as usize, order)?;
-            Ok(Record::Array(short(first, Unsaid::First)?, count))
+            let first = short(first, Unsaid::First)?;
+            Ok(Record::Array(Span { first, count }))
         }
         Kind::Object(n) => {
             let count = short(n, Unsaid::Count)?;
             join_parts(nodes, at, 2 * count as usize, order)?;
-            Ok(Record::Object(short(first, Unsaid::First)?, count))
+            let first = short(first, Unsaid::First)?;
+            Ok(Record::Object(Span { first, count }))
         }
     }
 }

@@ -17,14 +17,14 @@ use tray::trays::Tray;
 
 // Prints a line for each host name.
 pub(crate) fn show(rt: &HostRuntime, tray: &Tray) -> io::Result<()> {
-    let Record::Object(first, count) = tray.record(0) else {
+    let Record::Object(names) = tray.record(0) else {
         return Ok(());
     };
-    if count == 0 {
+    if names.count == 0 {
         return println!(rt; "show nothing: the tray has no names");
     }
-    for i in 0..count as usize {
-        let key = first as usize + 2 * i;
+    for j in 0..names.count {
+        let key = names.key(j);
         let line = entry_line(rt.alloc(), tray, key, key + 1)?;
         rt.stdout().write_all(line.as_slice())?;
     }
@@ -111,8 +111,8 @@ fn kind_word(it: Record) -> &'static str
         Record::Nil => "nil",
         Record::Boolean(_) => "boolean",
         Record::Whole(_) => "number",
-        Record::Text(_, _) => "text",
-        Record::Array(_, _) => "array",
-        Record::Object(_, _) => "object",
+        Record::Text(_) => "text",
+        Record::Array(_) => "array",
+        Record::Object(_) => "object",
     }
 }

@@ -4,7 +4,7 @@ ghost use Rattle.std.specs.Prelude.{◌≡◌, ◌++◌, IfOk, OnOk};
 ghost use Rattle.ticket.specs.Spelling.{spelt, pair_spelt, all_spelt, ReadAsWritten};
 
 use std::alloc::{AllocError, Global};
-use tray::records::Record;
+use tray::records::{Record, Span};
 
 // The bytes of all records, one after another.
 #[tactic(auto, using(crate::proofs::Spells::read_as_written))]
@@ -27,9 +27,9 @@ fn spell(out: &mut Vec<u8>, it: Record) -> Result<(), AllocError>
         Record::Nil => out.extend_from_slice(&[0]),
         Record::Boolean(b) => out.extend_from_slice(&[1, if b { 1 } else { 0 }]),
         Record::Whole(n) => spell_whole(out, n),
-        Record::Text(place, len) => spell_pair(out, 3, place, len),
-        Record::Array(first, count) => spell_pair(out, 4, first, count),
-        Record::Object(first, count) => spell_pair(out, 5, first, count),
+        Record::Text(span) => spell_span(out, 3, span),
+        Record::Array(span) => spell_span(out, 4, span),
+        Record::Object(span) => spell_span(out, 5, span),
     }
 }
 
@@ -42,11 +42,11 @@ fn spell_whole(out: &mut Vec<u8>, n: i64) -> Result<(), AllocError>
     Ok(())
 }
 
-// A kind and two numbers of two bytes each.
-fn spell_pair(out: &mut Vec<u8>, kind: u8, from: u16, many: u16) -> Result<(), AllocError>
-    ensures { OnOk result (out.new.items ≡ out.old.items ++ pair_spelt kind from many) }
+// A kind and the two numbers of a span, two bytes each.
+fn spell_span(out: &mut Vec<u8>, kind: u8, span: Span) -> Result<(), AllocError>
+    ensures { OnOk result (out.new.items ≡ out.old.items ++ pair_spelt kind span.first span.count) }
 {
-    let [a, b] = from.to_le_bytes();
-    let [c, d] = many.to_le_bytes();
+    let [a, b] = span.first.to_le_bytes();
+    let [c, d] = span.count.to_le_bytes();
     out.extend_from_slice(&[kind, a, b, c, d])
 }
