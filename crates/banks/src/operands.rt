@@ -27,6 +27,7 @@ impl<'a> Short<'a> {
     pub fn new(bytes: &'a [u8]) -> Option<Short<'a>>
         ensures { MatchOption result (256 < length bytes.now) (λ s. text_of s ≡ bytes.now) }
     {
+        // `then_some` would make the text before its bound is known.
         if bytes.len() <= LONGEST {
             Some(Short { bytes })
         } else {
