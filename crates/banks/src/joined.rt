@@ -9,7 +9,7 @@ use crate::causes::Cause;
 use crate::operands::Operand;
 
 /// Two banks side by side: the left one has the names that it knows, the right one the rest.
-#[derive(Drop)]
+#[derive(Drop, Debug, PartialEq, Eq)]
 pub struct Joined<L, R> {
     left: L,
     right: R,

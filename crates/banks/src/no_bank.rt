@@ -7,7 +7,7 @@ use crate::causes::Cause;
 use crate::operands::Operand;
 
 /// The bank that knows no name.
-#[derive(Clone, Copy)]
+#[derive(Clone, Copy, Debug, PartialEq, Eq)]
 pub struct NoBank;
 
 impl Bank for NoBank {

@@ -1,17 +1,17 @@
-ghost use Rattle.std.specs.Prelude.{◌≡◌, ◌<◌, ◌≤◌, length, MatchOption};
-ghost use Rattle.banks.specs.Operands.{text_of};
+ghost use Rattle.std.specs.Prelude.{◌≤◌, length};
 
 // How many bytes a text may have.
 const LONGEST: usize = 256;
 
 /// A text of at most 256 bytes.
-#[derive(Clone, Copy)]
+#[derive(Clone, Copy, Debug, PartialEq, Eq)]
 pub struct Short<'a> {
     bytes: &'a [u8],
+    ghost short: { length bytes.now ≤ 256 },
 }
 
 /// What a filter is applied to, or its argument.
-#[derive(Clone, Copy)]
+#[derive(Clone, Copy, Debug, PartialEq, Eq)]
 pub enum Operand<'a> {
     Nil,
     Boolean(bool),
@@ -20,10 +20,14 @@ pub enum Operand<'a> {
 }
 
 impl<'a> Short<'a> {
+    ghost use Rattle.std.specs.Prelude.{◌≡◌, ◌<◌, ◌≤◌, length, MatchOption};
+    ghost use Rattle.banks.specs.Operands.{text_of};
+
     /// The text, unless it has more than 256 bytes.
     pub fn new(bytes: &'a [u8]) -> Option<Short<'a>>
         ensures { MatchOption result (256 < length bytes.now) (λ s. text_of s ≡ bytes.now) }
     {
+        // `then_some` would make the text before its bound is known.
         if bytes.len() <= LONGEST {
             Some(Short { bytes })
         } else {
@@ -36,10 +40,6 @@ impl<'a> Short<'a> {
         ensures value { result.now ≡ text_of self.entry }
         ensures short { length result.now ≤ 256 }
     {
-        if self.bytes.len() <= LONGEST {
-            self.bytes
-        } else {
-            &self.bytes[0..LONGEST]
-        }
+        self.bytes
     }
 }

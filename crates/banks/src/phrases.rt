@@ -1,9 +1,9 @@
-ghost use Rattle.std.specs.Prelude.{◌≡◌, Err, codes, MatchOption, MatchResult};
-ghost use Rattle.std.specs.Option.{option_map};
+ghost use Rattle.std.specs.Prelude.{◌≡◌, codes};
+ghost use Rattle.std.specs.Option.{option_map, ok_or};
 ghost use Rattle.tray.specs.Parts.{same_text};
 ghost use Rattle.values.specs.Meaning.{value_of};
 ghost use Rattle.banks.specs.declared.causes.Cause.TheVariants.{NoPhrase};
-ghost use Rattle.banks.specs.Fetched.{Fetched};
+ghost use Rattle.banks.specs.Fetched.{texted};
 ghost use Rattle.banks.specs.Operands.{datum};
 ghost use Rattle.banks.specs.Phrases.{phrase_of, phrase, phrases};
 ghost use Rattle.banks.specs.Lawful.{phrases_lawful};
@@ -11,7 +11,7 @@ ghost use Rattle.banks.specs.Lawful.{phrases_lawful};
 use crate::answers::{Answer, put};
 use crate::bank::Bank;
 use crate::causes::Cause;
-use crate::operands::Operand;
+use crate::operands::{Operand, Short};
 use tray::records::Record;
 use tray::trays::Tray;
 use values::finds::find;
@@ -31,20 +31,19 @@ impl<'a> Phrases<'a> {
     }
 }
 
-// The bytes of a record that is a phrase.
-fn phrase_at<'a>(tray: &Tray<'a>, i: usize) -> Option<&'a [u8]>
-    ensures { MatchOption result (phrase_of (value_of tray.now i) ≡ Err NoPhrase) (λ t. Fetched (phrase_of (value_of tray.now i)) t.now) }
+// The text of a record that is a phrase.
+fn phrase_at<'a>(tray: &Tray<'a>, i: usize) -> Option<Short<'a>>
+    ensures { texted (ok_or result NoPhrase) ≡ phrase_of (value_of tray.now i) }
 {
     let Record::Text(_) = tray.record(i) else {
         return None;
     };
-    let text = tray.text_of(i);
-    if text.len() <= 256 { Some(text) } else { None }
+    Short::new(tray.text_of(i))
 }
 
-// The bytes of the phrase that the input names.
-fn fetch<'a>(tray: &Tray<'a>, input: Operand, argument: Option<Operand>) -> Result<&'a [u8], Cause>
-    ensures { MatchResult result (λ t. Fetched (phrase (value_of tray.now 0) (datum input.entry) (option_map datum argument.entry)) t.now) (λ c. phrase (value_of tray.now 0) (datum input.entry) (option_map datum argument.entry) ≡ Err c) }
+// The phrase that the input names.
+fn fetch<'a>(tray: &Tray<'a>, input: Operand, argument: Option<Operand>) -> Result<Short<'a>, Cause>
+    ensures { texted result ≡ phrase (value_of tray.now 0) (datum input.entry) (option_map datum argument.entry) }
 {
     if argument.is_some() {
         return Err(Cause::WrongOperand);
@@ -83,7 +82,7 @@ impl<'a> Bank for Phrases<'a> {
         if !is_known(name) {
             return Err(Cause::UnknownName);
         }
-        let text = fetch(&self.tray, input, argument)?;
+        let text = fetch(&self.tray, input, argument)?.bytes();
         put(answer, text);
         Ok(Answer::Text(text.len()))
     }

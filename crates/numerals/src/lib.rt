@@ -9,6 +9,7 @@ ghost use Rattle.numerals.specs.Laws.{ReadsWhatIsSpelled, ReadsBack, AtMost20Byt
 use itoa::Buffer;
 
 /// Writes the decimal text of `n` at the front of `out` and answers its length; nothing where `out` is shorter than the text.
+// Into a caller's buffer, since rendering never allocates.
 pub fn write_whole(n: i64, out: &mut [u8]) -> Option<usize>
     ensures written { MatchOption result ((length out.old < length (whole_text n)) × (out.new ≡ out.old)) (λ k. (k ≡ length (whole_text n)) × (out.new ≡ whole_text n ++ drop k out.old)) }
     ensures short { AtMost20Bytes }
