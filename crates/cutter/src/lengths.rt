@@ -62,7 +62,7 @@ impl Symbol {
     }
 }
 
-// Each method but `stands` answers a place: behind what it is named after, which begins here; `None` where none begins.
+// Each method but `stands` answers the place behind what it is named after, and `None` where that does not begin here.
 impl<'a> Place<'a> {
     // Whether a byte of the class stands here.
     pub(crate) fn stands(self, class: Class) -> bool
@@ -137,6 +137,7 @@ impl<'a> Place<'a> {
         self.one(Class::Quote)?.run(Class::Not(quote)).skip(quote)
     }
 
+    // A `match` here, in `value` and in `token`, as a proof knows nothing of what the closure of an `or_else` answers by a method's call.
     #[tactic(auto, unfolding(crate::specs::Lengths::key_length))]
     fn key(self) -> Option<Self>
         ensures { Behind key_length self.entry result }

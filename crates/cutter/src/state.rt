@@ -31,56 +31,24 @@ impl State {
     pub(crate) fn step(&mut self, b: u8) -> Event
         ensures { (self.new, result) ≡ stepped self.old b }
     {
-        match (*self, b) {
-            (State::Text, b'{') => {
-                *self = State::Brace;
-                Event::Goes
-            }
-            (State::Text, _) => Event::Goes,
-            (State::Brace, b'%') => {
-                *self = State::Inside(Kind::Tag);
-                Event::Opens
-            }
-            (State::Brace, b'{') => {
-                *self = State::Inside(Kind::Output);
-                Event::Opens
-            }
-            (State::Brace, _) => {
-                *self = State::Text;
-                Event::Goes
-            }
-            (State::Inside(kind), b'\'' | b'"') => {
-                *self = State::Quoted(kind, b);
-                Event::Goes
-            }
-            (State::Inside(Kind::Tag), b'%') => {
-                *self = State::Closing(Kind::Tag);
-                Event::Goes
-            }
-            (State::Inside(Kind::Output), b'}') => {
-                *self = State::Closing(Kind::Output);
-                Event::Goes
-            }
-            (State::Inside(_), _) => Event::Goes,
-            (State::Closing(kind), b'}') => {
-                *self = State::Text;
-                Event::Closes(kind)
-            }
-            (State::Closing(Kind::Tag), b'%') => Event::Goes,
-            (State::Closing(kind), b'\'' | b'"') => {
-                *self = State::Quoted(kind, b);
-                Event::Goes
-            }
-            (State::Closing(kind), _) => {
-                *self = State::Inside(kind);
-                Event::Goes
-            }
-            (State::Quoted(kind, quote), _) => {
-                if b == quote {
-                    *self = State::Inside(kind);
-                }
-                Event::Goes
-            }
-        }
+        let (next, event) = match (*self, b) {
+            (State::Text, b'{') => (State::Brace, Event::Goes),
+            (State::Text, _) => (State::Text, Event::Goes),
+            (State::Brace, b'%') => (State::Inside(Kind::Tag), Event::Opens),
+            (State::Brace, b'{') => (State::Inside(Kind::Output), Event::Opens),
+            (State::Brace, _) => (State::Text, Event::Goes),
+            (State::Inside(kind), b'\'' | b'"') => (State::Quoted(kind, b), Event::Goes),
+            (State::Inside(Kind::Tag), b'%') => (State::Closing(Kind::Tag), Event::Goes),
+            (State::Inside(Kind::Output), b'}') => (State::Closing(Kind::Output), Event::Goes),
+            (State::Inside(kind), _) => (State::Inside(kind), Event::Goes),
+            (State::Closing(kind), b'}') => (State::Text, Event::Closes(kind)),
+            (State::Closing(Kind::Tag), b'%') => (State::Closing(Kind::Tag), Event::Goes),
+            (State::Closing(kind), b'\'' | b'"') => (State::Quoted(kind, b), Event::Goes),
+            (State::Closing(kind), _) => (State::Inside(kind), Event::Goes),
+            (State::Quoted(kind, quote), _) if b == quote => (State::Inside(kind), Event::Goes),
+            (State::Quoted(kind, quote), _) => (State::Quoted(kind, quote), Event::Goes),
+        };
+        *self = next;
+        event
     }
 }
