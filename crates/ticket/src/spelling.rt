@@ -25,7 +25,7 @@ fn spell(out: &mut Vec<u8>, it: Record) -> Result<(), AllocError>
 {
     match it {
         Record::Nil => out.extend_from_slice(&[0]),
-        Record::Boolean(b) => out.extend_from_slice(&[1, if b { 1 } else { 0 }]),
+        Record::Boolean(b) => out.extend_from_slice(&[1, u8::from(b)]),
         Record::Whole(n) => spell_whole(out, n),
         Record::Text(place, len) => spell_pair(out, 3, place, len),
         Record::Array(first, count) => spell_pair(out, 4, first, count),
