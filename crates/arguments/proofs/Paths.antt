@@ -1,6 +1,6 @@
 -- Paths and their steps in the tables.
-use Rattle.std.proofs.Common.{◌≡◌, ℕ, ◌+◌, ◌-◌, ◌<◌, ◌≤◌, false, leb, List, [], ◌∷◌, ◌++◌, map, length, take, drop, Some, vec_items, Option, sym, refl, ap, ◌∙◌, subst, append_assoc, append-nil, arith, length-append}
-use Rattle.std.proofs.lemmas.Bool.{le-leb, lt-leb}
+use Rattle.std.proofs.Common.{◌≡◌, ℕ, ◌+◌, ◌-◌, ◌<◌, ◌≤◌, List, [], ◌∷◌, ◌++◌, map, length, take, drop, Some, vec_items, Option, sym, refl, ap, ◌∙◌, subst, append_assoc, append-nil, arith, length-append}
+use Rattle.std.proofs.lemmas.Bool.{le-leb}
 use Rattle.std.proofs.lemmas.List.{drop_at, take_all, map-append}
 use Rattle.std.specs.Option.{option_map}
 use Rattle.cutter.specs.Paths.{PlacedStep, at_index, at_key, KeysInside}
@@ -110,12 +110,6 @@ pushing_all d m ss left from count none f c p =
       there = new_entries (vec_items d.steps) p.new (vec_items m.steps) from count p.is f (omega arith);
       are = each_source (pool_of d) (pool_of m) p.grown.pool.source p.new ∙ p.are ∙ ap (λ l. Some (map tree_step_of l)) (sym done);
     }
-
--- there are more
-pub pushing_five : (d m : Reader) (ss : List PlacedStep) (s : PlacedStep) (before left : List PlacedStep) → before ≡ s ∷ left → (p : Pushing d m ss before) → length p.new ≡ 4 → leb (length ss) 4 ≡ false
-pushing_five d m ss s before left walked p full =
-    let long : length ss ≡ length p.done + length (s ∷ left) = ap length (p.split ∙ ap (λ l. p.done ++ l) walked) ∙ length-append p.done (s ∷ left) in
-    lt-leb (length ss) 4 (omega (arith, long, p.long))
 
 -- how many were pushed
 pub pushed_count : (d m : Reader) (ss left : List PlacedStep) (p : Pushing d m ss left) → length (vec_items m.steps) ≡ length (vec_items d.steps) + length p.new

@@ -25,7 +25,7 @@ fn spell(out: &mut Vec<u8>, it: Record) -> Result<(), AllocError>
 {
     match it {
         Record::Nil => out.extend_from_slice(&[0]),
-        Record::Boolean(b) => out.extend_from_slice(&[1, if b { 1 } else { 0 }]),
+        Record::Boolean(b) => out.extend_from_slice(&[1, u8::from(b)]),
         Record::Whole(n) => spell_whole(out, n),
         Record::Text(span) => spell_span(out, 3, span),
         Record::Array(span) => spell_span(out, 4, span),

@@ -1,25 +1,11 @@
 use Rattle.std.proofs.Common.{◌≡◌, ◌<◌, [], ◌∷◌, ◌++◌, length, vec_items, refl, ap, ◌∙◌, arith}
 use Rattle.cutter.specs.Paths.{steps_of, steps_left, placed_step}
 use Rattle.nodes.proofs.Options.{front_refl}
-use Rattle.arguments.proofs.Paths.{keys_in, pushing_none, pushing_more, pushing_all, pushing_five, pushed_count}
+use Rattle.arguments.proofs.Paths.{keys_in, pushing_none, pushing_more, pushing_all, pushed_count}
 use Rattle.arguments.proofs.reader.Reader.push_steps.Goals as goal
 
 pub loop-step-init : goal.loop-step-init
 loop-step-init c = pushing_none c.args.self.now (steps_of c.args.at c.args.steps.now) (steps_left c.new-walk.result) c.new-walk.ensures.steps
-
-pub overflow_sub-len : goal.overflow_sub-len
-overflow_sub-len c =
-    let d = c.args.self.now in
-    let m = c.loop-step.self in
-    omega (arith, c.len-from.ensures, c.len.ensures, d.steps.ok.0, m.steps.ok.0, pushed_count d m _ _ c.loop-step.invariant)
-
-pub returns-then-len-from-eq-STEPS-clause-did : goal.returns-then-len-from-eq-STEPS-clause-did
-returns-then-len-from-eq-STEPS-clause-did c =
-    let d = c.args.self.now in
-    let m = c.loop-step.self in
-    let p = c.loop-step.invariant in
-    let count = pushed_count d m _ _ p in
-    (pushing_five d m (steps_of c.args.at c.args.steps.now) (placed_step c.in-Some.step) (steps_left c.loop-step.walk) (steps_left c.next.new.self) c.in-Some.ensures p (omega (arith, count, c.len-from.ensures, c.len.ensures, d.steps.ok.0, m.steps.ok.0, c.if-len-from-eq-STEPS.true)), refl, refl)
 
 pub loop-step-preserved : goal.loop-step-preserved
 loop-step-preserved c =
@@ -36,12 +22,6 @@ loop-step-preserved c =
     (items ∙ ap (λ x. vec_items m.steps ++ (x ∷ [])) c.step_of.ensures)
     (record { pool = record { source = refl; names = omega arith; cycles = omega arith; steps = record { more = c.step_of.result ∷ []; is = items }; values = front_refl _; filters = front_refl _ }; names = front_refl _; cycles = front_refl _; nodes = refl; mark = refl })
     refl
-
-pub overflow_sub-count : goal.overflow_sub-count
-overflow_sub-count c =
-    let d = c.args.self.now in
-    let m = c.loop-step.self in
-    omega (arith, c.len-from.ensures, c.len-2.ensures, d.steps.ok.0, m.steps.ok.0, pushed_count d m _ _ c.loop-step.invariant)
 
 pub returns-clause-did : goal.returns-clause-did
 returns-clause-did c =
