@@ -8,6 +8,7 @@ use crate::places::Place;
 use numerals::read_whole;
 
 // The classes of bytes: blanks, digits, what a name begins with, what it goes on with, quotes, one byte, and all but one.
+// An enum and no closure, since the definitions speak of the classes by name.
 #[derive(Clone, Copy, Debug, PartialEq, Eq)]
 pub(crate) enum Class {
     Blank,

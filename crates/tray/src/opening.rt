@@ -29,7 +29,7 @@ impl<T: Drop> From<AllocFailed<T>> for OpenError {
 }
 
 impl OpenError {
-    /// The number of the refusal; want of memory has none.
+    /// The number of the refusal; want of memory has none, so it is no discriminant.
     pub fn number(self) -> Option<u8>
         ensures { result ≡ number_of self }
     {
