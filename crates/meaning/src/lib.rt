@@ -1,4 +1,4 @@
-// What a ticket means. The definitions are in specs/; the functions here stand for theorems about them.
+//! What a ticket means. The definitions are in specs/; the functions here stand for theorems about them.
 
 #![tactic(auto)]
 
@@ -11,47 +11,37 @@ ghost use Rattle.meaning.specs.PageCases.{PageCases};
 ghost use Rattle.meaning.specs.Reading.{StepsAgree, RowsAgree, ReadAgainIsThere};
 ghost use Rattle.meaning.specs.Worked.{WorkedCases};
 
-// Calls may be made in any order that keeps the order of those that clash.
-pub fn order_stands() -> u8
+/// Calls may be made in any order that keeps the order of those that clash.
+pub fn order_stands()
     ensures order { OrderFree }
-{
-    0
-}
+{}
 
-// Small templates give what a reader works out for them.
-pub fn worked_cases_stand() -> u8
+/// Small templates give what a reader works out for them.
+pub fn worked_cases_stand()
     ensures cases { WorkedCases }
     ensures faults { FaultCases }
     ensures pages { PageCases }
     ensures more { MoreCases }
     ensures objects { ObjectCases }
-{
-    0
-}
+{}
 
-// What a call reads and writes says all about what it depends on and changes.
-pub fn sharing_stands() -> u8
+/// What a call reads and writes says all about what it depends on and changes.
+pub fn sharing_stands()
     ensures changes { ChangesOnlyWhatItWrites }
     ensures depends { DependsOnlyOnWhatItReads }
     ensures commute { WithoutAClashTheyCommute }
     ensures refused { RefusedCallsTouchNothing }
-{
-    0
-}
+{}
 
-// Text is only added, and never passes the buffer.
-pub fn text_stands() -> u8
+/// Text is only added, and never passes the buffer.
+pub fn text_stands()
     ensures adds { RenderingOnlyAdds }
     ensures whole { TicketsAreWhole }
-{
-    0
-}
+{}
 
-// A held array, object or pair is the value of its records.
-pub fn reading_stands() -> u8
+/// A held array, object or pair is the value of its records.
+pub fn reading_stands()
     ensures steps { StepsAgree }
     ensures rows { RowsAgree }
     ensures again { ReadAgainIsThere }
-{
-    0
-}
+{}
