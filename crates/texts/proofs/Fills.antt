@@ -1,14 +1,10 @@
 -- Texts laid one behind another, and loops that lay what an array or an object holds.
-use Rattle.std.proofs.Common.{◌≡◌, ℕ, ◌+◌, ◌-◌, ◌<◌, ◌≤◌, List, [], ◌++◌, length, take, drop, Option, sym, ap, ◌∙◌, subst, arith}
-use Rattle.std.proofs.lemmas.List.{append_assoc, append-nil, length-append, length-drop, length-take-le, take_at, drop_at, drop-drop, drop_all, take_rest, take-append-drop}
+use Rattle.std.proofs.Common.{◌≡◌, ℕ, ◌+◌, ◌-◌, ◌<◌, ◌≤◌, List, [], ◌++◌, length, take, drop, sym, ap, ◌∙◌, subst, arith}
+use Rattle.std.proofs.lemmas.List.{append_assoc, append-nil, length-append, length-drop, length-take-le, take_at, drop_at, drop-drop, drop_all, take_rest}
 use borrow.Rule.Slice.PartMut.{put_mid}
 use Rattle.values.specs.Value.{Value, written}
-use Rattle.texts.specs.Written.{Laid, LaidAt, Lays}
+use Rattle.texts.specs.Written.{Laid, LaidAt}
 use Rattle.texts.proofs.LeafTexts.{written_all, all_more, all_done}
-
--- nothing is laid
-pub lay_none : (from : ℕ) (old : List ℕ) → LaidAt from [] old old from
-lay_none from old = record { long = omega arith; holds = sym (take-append-drop from old) }
 
 -- one text, and another behind it
 pub lay_more : {from : ℕ} {a old mid : List ℕ} {end : ℕ} → LaidAt from a old mid end → from ≤ length old → {b new : List ℕ} {last : ℕ} → LaidAt end b mid new last → LaidAt from (a ++ b) old new last
@@ -47,16 +43,9 @@ lay_part from bytes old part n x =
     behind : drop n (take (length old - from) (drop from old)) ≡ drop (from + n) old
     behind = ap (drop n) (take_rest old from) ∙ drop-drop n from old
 
--- a text laid from 0 on is laid at the front
-pub lay_front : {bytes old new : List ℕ} {end : ℕ} → LaidAt 0 bytes old new end → Laid bytes old new end
-lay_front x = record { long = omega (arith, x.long); holds = x.holds }
-
 -- the same text by another name
 pub lay_as : {from : ℕ} {a old new : List ℕ} {end : ℕ} → LaidAt from a old new end → (b : List ℕ) → b ≡ a → LaidAt from b old new end
 lay_as {from} {a} {old} {new} {end} x b e = subst (λ t. LaidAt from t old new end) (sym e) x
-
-pub lays_as : (a old new : List ℕ) (r : Option ℕ) → Lays a old new r → {b : List ℕ} → b ≡ a → Lays b old new r
-lays_as a old new r x {b} e = subst (λ t. Lays t old new r) (sym e) x
 
 -- what is laid, with what is to come, is the whole
 pub record Laying (f : ℕ → Value) (whole : List ℕ) (c stop from : ℕ) (old new : List ℕ) (end : ℕ) : Type 0 where

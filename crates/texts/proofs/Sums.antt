@@ -1,9 +1,9 @@
 -- How much of a room is left after the parts of a text.
-use Rattle.std.proofs.Common.{◌≡◌, ℕ, ◌+◌, ◌-◌, ◌<◌, ◌≤◌, leb, List, ◌++◌, length, Some, None, Option, sym, ap, ◌∙◌, ⊎_elim, arith}
+use Rattle.std.proofs.Common.{◌≡◌, ℕ, ◌+◌, ◌-◌, ◌<◌, ◌≤◌, leb, List, ◌++◌, length, Some, None, sym, ap, ◌∙◌, ⊎_elim, arith}
 use Rattle.std.proofs.lemmas.List.{length-append}
 use Rattle.std.proofs.lemmas.Bool.{le-leb, lt-leb, cond-true, cond-false, cases_Bool, leb-true, leb-false}
 use Rattle.values.specs.Value.{Value, written}
-use Rattle.texts.specs.Written.{leaves, if_room}
+use Rattle.texts.specs.Written.{leaves}
 use Rattle.texts.proofs.LeafTexts.{written_all, all_more, all_done}
 
 some_none : {P : Type 0} (n : ℕ) → Some n ≡ None → P
@@ -29,22 +29,6 @@ none_left room n l = sym (cond-false (leb n room) (Some (room - n)) None (lt-leb
 
 pub some_left : (room n left : ℕ) → left + n ≡ room → Some left ≡ leaves room n
 some_left room n left e = ap Some (let q : left ≡ room - n = omega arith in q) ∙ sym (cond-true (leb n room) (Some (room - n)) None (le-leb n room (omega arith)))
-
-pub leaves_as : (room m n : ℕ) (o : Option ℕ) → o ≡ leaves room n → m ≡ n → o ≡ leaves room m
-leaves_as room m n o e h = e ∙ ap (leaves room) (sym h)
-
--- the length that was taken, from what is left
-pub taken_some : (room n left : ℕ) → Some left ≡ leaves room n → Some (room - left) ≡ if_room room n
-taken_some room n left e =
-    let p = left_some room n left e in
-    ap Some (let q : room - left ≡ n = omega (arith, p.0, p.1) in q) ∙ sym (cond-true (leb n room) (Some n) None (le-leb n room p.0))
-
-pub taken_none : (room n : ℕ) → None ≡ leaves room n → None ≡ if_room room n
-taken_none room n e = sym (cond-false (leb n room) (Some n) None (lt-leb n room (left_none room n e)))
-
-pub room_none : (room n : ℕ) → None ≡ if_room room n → room < n
-room_none room n e =
-    ⊎_elim (λ t. some_none n (sym (e ∙ cond-true (leb n room) (Some n) None t))) (λ f. leb-false n room f) (cases_Bool (leb n room))
 
 -- what is used, with what is still to come, is the whole
 pub record Left (f : ℕ → Value) (whole : List ℕ) (room c stop left : ℕ) : Type 0 where
