@@ -8,6 +8,18 @@ ghost use Rattle.numerals.specs.Laws.{ReadsWhatIsSpelled, ReadsBack, AtMost20Byt
 
 use itoa::Buffer;
 
+/// Lays the bytes at the front of `out` and answers how many there are; nothing where `out` is shorter.
+pub fn write_bytes(bytes: &[u8], out: &mut [u8]) -> Option<usize>
+    ensures { MatchOption result ((length out.old < length bytes.now) × (out.new ≡ out.old)) (λ k. (k ≡ length bytes.now) × (out.new ≡ bytes.now ++ drop k out.old)) }
+{
+    let end = bytes.len();
+    if out.len() < end {
+        return None;
+    }
+    out[..end].copy_from_slice(bytes);
+    Some(end)
+}
+
 /// Writes the decimal text of `n` at the front of `out` and answers its length; nothing where `out` is shorter than the text.
 // Into a caller's buffer, since rendering never allocates.
 pub fn write_whole(n: i64, out: &mut [u8]) -> Option<usize>
@@ -15,14 +27,7 @@ pub fn write_whole(n: i64, out: &mut [u8]) -> Option<usize>
     ensures short { AtMost20Bytes }
     ensures first { NoLeadingZero }
 {
-    let mut buffer = Buffer::new();
-    let text = buffer.format(n).as_bytes();
-    let end = text.len();
-    if out.len() < end {
-        return None;
-    }
-    out[..end].copy_from_slice(text);
-    Some(end)
+    write_bytes(Buffer::new().format(n).as_bytes(), out)
 }
 
 /// Reads a text of an optional sign and one or more digits as a number of 64 signed bits; nothing where the text is none, or its value is beyond.

@@ -1,6 +1,6 @@
 //! The text of a value, laid into a buffer.
 ghost use Rattle.std.specs.Prelude.{◌≡◌, ◌+◌, ◌≤◌, length};
-ghost use Rattle.tray.specs.Sound.{at as record_at};
+ghost use Rattle.tray.specs.Records.{record_of};
 ghost use Rattle.values.specs.Value.{written};
 ghost use Rattle.values.specs.Meaning.{value_of};
 ghost use Rattle.texts.specs.Written.{LaidAt, Lays, leaf_text};
@@ -12,13 +12,10 @@ use tray::trays::Tray;
 
 // Lays the own text of the record i into `out` from a place on, where it has room; answers where it ends.
 fn leaf_at(tray: &Tray, i: usize, out: &mut [u8], from: usize) -> usize
-    requires { from + length (leaf_text tray.now.text.now (record_at tray.now.records.items i)) ≤ length out.old }
-    ensures { LaidAt from (leaf_text tray.now.text.now (record_at tray.now.records.items i)) out.old out.new result }
+    requires { from + length (leaf_text tray.now.text.now (record_of tray.now i)) ≤ length out.old }
+    ensures { LaidAt from (leaf_text tray.now.text.now (record_of tray.now i)) out.old out.new result }
 {
-    match write_leaf(tray, i, &mut out[from..]) {
-        Some(n) => from + n,
-        None => from,
-    }
+    from + write_leaf(tray, i, &mut out[from..]).unwrap()
 }
 
 // The same with its whole text: its own, and then that of each record that it holds.

@@ -1,9 +1,10 @@
 -- Two texts are the same where the library's test of two slices says so, and where one has the other's length and bytes.
 use Rattle.std.specs.Cmp.Lexicographic.{pointwise}
-use Rattle.std.proofs.Common.{◌≡◌, ℕ, suc, Bool, true, false, ◌&&◌, List, [], ◌∷◌, length, get_or, sym, refl, ap, ◌∙◌, nat_eq, arith}
+use Rattle.std.proofs.Common.{◌≡◌, ℕ, suc, Bool, true, false, ◌&&◌, ◌||◌, List, [], ◌∷◌, length, get_or, sym, refl, ap, ap₂, ◌∙◌, nat_eq, codes, arith}
 use Rattle.std.proofs.lemmas.Slice.Eq.{slice_eq-Decides, bytes_eq-Decides}
 use Rattle.std.proofs.lemmas.Bool.Decides.{same_from_decides, Decides-eqb, nat_tests}
 use Rattle.tray.specs.Parts.{same_text}
+use Rattle.tray.specs.Sound.{reserved}
 
 pub slices_same : (xs ys : List ℕ) → pointwise nat_eq xs ys ≡ same_text xs ys
 unfolding same_text
@@ -36,3 +37,12 @@ same_reads (x ∷ xs) (y ∷ ys) =
     ap (λ b. nat_eq x y && b) (same_reads xs ys) ∙ swapped (nat_eq x y) (nat_eq (length xs) (length ys)) (has_bytes xs 0 ys)
     ∙ ap (λ b. b && (nat_eq x y && has_bytes xs 0 ys)) (sym (suc_eq (length xs) (length ys)))
     ∙ ap (λ b. nat_eq (length (x ∷ xs)) (length (y ∷ ys)) && (nat_eq x y && b)) (sym (shift x xs 0 ys))
+
+-- the same for each of the words that the language keeps
+abbrev pub reads : List ℕ → List ℕ → Bool
+reads s p = nat_eq (length s) (length p) && has_bytes s 0 p
+
+pub reserved_reads : (s : List ℕ) → reserved s ≡ (reads s (codes "forloop") || (reads s (codes "tablerowloop") || (reads s (codes "empty") || reads s (codes "blank"))))
+reserved_reads s =
+    ap₂ (λ a b. a || b) (same_reads s (codes "forloop"))
+    (ap₂ (λ a b. a || b) (same_reads s (codes "tablerowloop")) (ap₂ (λ a b. a || b) (same_reads s (codes "empty")) (same_reads s (codes "blank"))))

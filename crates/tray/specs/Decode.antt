@@ -1,5 +1,5 @@
 -- What the bytes of a tray say: records one after another.
-use Rattle.std.specs.Prelude.{ℕ, zero, suc, ◌+◌, ◌*◌, cond, List, [], ◌∷◌, ◌++◌, length, drop, Some, None, Option, ◌==◌, nat_lt, slice_index}
+use Rattle.std.specs.Prelude.{ℕ, zero, suc, ◌+◌, ◌*◌, cond, List, [], ◌∷◌, ◌++◌, length, drop, Some, None, codes, Option, ◌==◌, nat_lt, slice_index}
 use Rattle.std.specs.Borrow.{Bor}
 use Rattle.std.specs.Int.{w64}
 use Rattle.std.specs.Option.{option_map}
@@ -73,6 +73,11 @@ decoded (suc most) room (b ∷ bs) = go_on (one room (b ∷ bs)) (decoded most r
 abbrev pub number_of : OpenError → Option ℕ
 number_of Refused = Some 10
 number_of Memory = None
+
+-- its words
+abbrev pub words_of : OpenError → List ℕ
+words_of Refused = codes "a rule of the record format is broken, or a host name is reserved"
+words_of Memory = codes "no memory"
 
 -- a refusal has a reason; want of memory may come at any time
 abbrev pub Why : OpenError → Type 0 → Type 0

@@ -3,3 +3,4 @@ pub mod Format
 pub mod Decode
 pub mod Sound
 pub mod Accept
+pub mod Records

@@ -19,9 +19,7 @@ pub(crate) fn load(
         if records.len() >= most {
             return Err(OpenError::Refused);
         }
-        let Some((record, rest)) = read_one(left, room) else {
-            return Err(OpenError::Refused);
-        };
+        let (record, rest) = read_one(left, room).ok_or(OpenError::Refused)?;
         records.push(record)?;
         left = rest;
     }

@@ -2,18 +2,15 @@
 ghost use Rattle.std.specs.Prelude.{◌≡◌, ◌+◌, ◌*◌, ◌<◌, ◌≤◌, length, Decides};
 ghost use Rattle.tray.specs.Sound.{reserved, Free};
 
-use crate::parts::{key_of, same_text};
+use crate::parts::key_of;
 use crate::records::{Record, Span};
 
 /// Whether a name belongs to the language.
+#[tactic(auto, using(crate::proofs::Same::reserved_reads, std::proofs::lemmas::Bool::Decides::nat_tests))]
 pub fn is_reserved(name: &[u8]) -> bool
     ensures { result ≡ reserved name.now }
 {
-    // `matches!` on the four words was tried: it has 34 cases, and the proof of 7 did not close.
-    same_text(name, b"forloop")
-        || same_text(name, b"tablerowloop")
-        || same_text(name, b"empty")
-        || same_text(name, b"blank")
+    matches!(name, b"forloop" | b"tablerowloop" | b"empty" | b"blank")
 }
 
 // Whether no key of the entries is a reserved name.

@@ -1,9 +1,9 @@
-ghost use Rattle.std.specs.Prelude.{◌≡◌, length, MatchResult};
+ghost use Rattle.std.specs.Prelude.{◌≡◌, length, Some, MatchResult};
 ghost use Rattle.tray.specs.declared.records.OpenError.TheVariants.{Memory};
 ghost use Rattle.tray.specs.Accept.{Accepts, Never};
-ghost use Rattle.tray.specs.Decode.{Why, number_of};
+ghost use Rattle.tray.specs.Decode.{Why, number_of, words_of};
 ghost use Rattle.tray.specs.Parts.{key_of};
-ghost use Rattle.tray.specs.Sound.{at as record_at};
+ghost use Rattle.tray.specs.Records.{record_of};
 
 use crate::judging::sound;
 use crate::loading::load;
@@ -11,6 +11,8 @@ use crate::parts::key_of;
 use crate::records::{OpenError, Record};
 use crate::trays::Tray;
 use std::alloc::{AllocError, AllocFailed, Global};
+use std::error::Error;
+use std::fmt;
 
 impl From<AllocError> for OpenError {
     ghost from_gives = { λ _ e. e ≡ Memory };
@@ -27,6 +29,20 @@ impl<T: Drop> From<AllocFailed<T>> for OpenError {
         OpenError::Memory
     }
 }
+
+impl fmt::Display for OpenError {
+    ghost output = { λ e. Some (words_of e) };
+
+    fn fmt<W: fmt::Write>(&self, f: &mut fmt::Formatter<W>) -> fmt::Result {
+        f.write_str(match self {
+            OpenError::Refused =>
+                "a rule of the record format is broken, or a host name is reserved",
+            OpenError::Memory => "no memory",
+        })
+    }
+}
+
+impl Error for OpenError {}
 
 impl OpenError {
     /// The number of the refusal; want of memory has none, so it is no discriminant.
@@ -62,14 +78,14 @@ impl<'a> Tray<'a> {
 
     /// A record by number; past the end there is only nil.
     pub fn record(&self, i: usize) -> Record
-        ensures { result ≡ record_at self.now.records.items i }
+        ensures { result ≡ record_of self.now i }
     {
         self.records.get(i).copied().unwrap_or(Record::Nil)
     }
 
     /// The bytes of a text record; of any other, none.
     pub fn text_of(&self, i: usize) -> &'a [u8]
-        ensures { result.now ≡ key_of self.now.text.now (record_at self.now.records.items i) }
+        ensures { result.now ≡ key_of self.now.text.now (record_of self.now i) }
     {
         key_of(self.text, self.record(i))
     }

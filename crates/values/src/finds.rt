@@ -2,7 +2,7 @@
 ghost use Rattle.std.specs.Prelude.{◌≡◌, ◌+◌, ◌*◌, ◌<◌, IfSome};
 ghost use Rattle.std.specs.Option.{option_map};
 ghost use Rattle.values.specs.Value.{find as find_in};
-ghost use Rattle.tray.specs.Sound.{at as record_at};
+ghost use Rattle.tray.specs.Records.{record_of};
 ghost use Rattle.values.specs.Steps.{member};
 ghost use Rattle.values.specs.Numbers.{entry_number, member_number};
 ghost use Rattle.values.specs.Meaning.{value_of, text_at, entries_from};
@@ -28,7 +28,7 @@ pub fn find_in(tray: &Tray, entries: Span, key: &[u8]) -> Option<usize>
 
 /// The value of the first entry with the key, by number, where the record i is an object.
 pub fn find(tray: &Tray, i: usize, key: &[u8]) -> Option<usize>
-    ensures number { result ≡ member_number (text_at tray.now) (record_at tray.now.records.items i) key.now }
+    ensures number { result ≡ member_number (text_at tray.now) (record_of tray.now i) key.now }
     ensures value { option_map (value_of tray.now) result ≡ member (value_of tray.now i) key.now }
 {
     match tray.record(i) {

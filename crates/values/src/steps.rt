@@ -1,20 +1,20 @@
 //! Steps into a value.
 ghost use Rattle.std.specs.Prelude.{◌≡◌};
 ghost use Rattle.std.specs.Option.{option_map};
-ghost use Rattle.tray.specs.Sound.{at as record_at};
+ghost use Rattle.tray.specs.Records.{record_of};
 ghost use Rattle.values.specs.Meaning.{value_of, text_at};
 ghost use Rattle.values.specs.Steps.{step_text, stepped};
 ghost use Rattle.values.specs.Numbers.{place_of, item_found, item_named_found, among_items, among_entries, followed};
 ghost use Rattle.values.specs.Found.{found_by, step_of};
 
 use crate::finds::find_in;
-use numerals::write_whole;
+use itoa::Buffer;
 use tray::parts::same_text;
 use tray::records::{Record, Span};
 use tray::trays::Tray;
 
 /// One step of a path: a number, or a name or key.
-#[derive(Clone, Copy, Debug)]
+#[derive(Clone, Copy, Debug, PartialEq, Eq)]
 pub enum Step<'a> {
     Number(i64),
     Name(&'a [u8]),
@@ -33,6 +33,7 @@ fn place(count: u16, z: i64) -> Option<u16>
 {
     let n = i64::from(count);
     let k = if z < 0 { n + z } else { z };
+    // `then_some` would have the cast done before its bound is known.
     if 0 <= k && k < n {
         Some(k as u16)
     } else {
@@ -82,10 +83,8 @@ fn into_entries(tray: &Tray, entries: Span, step: Step) -> Option<Found>
 {
     match step {
         Step::Number(z) => {
-            // Fixed memory: a step is taken while a ticket is rendered, which never allocates.
-            let mut text = [0u8; 20];
-            let n = write_whole(z, &mut text)?;
-            entry_named(tray, entries, &text[0..n])
+            let mut digits = Buffer::new();
+            entry_named(tray, entries, digits.format(z).as_bytes())
         }
         Step::Name(name) => entry_named(tray, entries, name),
     }
@@ -93,7 +92,7 @@ fn into_entries(tray: &Tray, entries: Span, step: Step) -> Option<Found>
 
 /// Where a step from the record i comes to, if it comes anywhere.
 pub fn follow(tray: &Tray, i: usize, step: Step) -> Option<Found>
-    ensures number { result ≡ followed (text_at tray.now) (record_at tray.now.records.items i) (step_of step.entry) }
+    ensures number { result ≡ followed (text_at tray.now) (record_of tray.now i) (step_of step.entry) }
     ensures value { option_map (found_by (value_of tray.now)) result ≡ stepped (value_of tray.now i) (step_of step.entry) }
 {
     match tray.record(i) {

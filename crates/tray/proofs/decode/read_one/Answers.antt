@@ -5,7 +5,6 @@ use Rattle.tray.specs.Decode.{Got, got, one}
 use Rattle.tray.specs.Format.{a_nil, a_false, a_true}
 use Rattle.tray.proofs.Formats.{front_one}
 use Rattle.tray.proofs.decode.read_one.Goals as goal
-use Rattle.tray.proofs.decode.read_one.Goals.{then-bytes-lt5+in-1-1, else-bytes-lt5+then-bytes-lt9+in-1-1, else-bytes-lt5+else-bytes-lt9+in-1-1, then-bytes-lt2+in-0-1, else-bytes-lt2+then-bytes-lt5+in-0-1, else-bytes-lt2+else-bytes-lt5+then-bytes-lt9+in-0-1, else-bytes-lt2+else-bytes-lt5+else-bytes-lt9+in-0-1}
 
 nil_one : (room : ℕ) (bs : List ℕ) → 0 < length bs → get_or bs 0 0 ≡ 0 → ◌≡◌ {A = Got} (Some (Nil, take (length bs - 1) (drop 1 bs))) (one room bs)
 nil_one room [] l k = absurd (omega arith)
@@ -19,9 +18,7 @@ boolean_one room (b ∷ suc zero ∷ bs) l k h = ap (got (Boolean true)) (take_r
 boolean_one room (b ∷ suc (suc d) ∷ bs) l k h = absurd (omega arith)
 
 pub returns-in-1 : goal.returns-in-1
-returns-in-1 c =
-    elim c.if-bytes-lt5.branch [ then-bytes-lt5+in-1-1 w ↦ boolean_one c.args.room c.args.bytes.now (search rules) (search rules) (search rules) | else-bytes-lt5+then-bytes-lt9+in-1-1 w ↦ boolean_one c.args.room c.args.bytes.now (search rules) (search rules) (search rules) | else-bytes-lt5+else-bytes-lt9+in-1-1 w ↦ boolean_one c.args.room c.args.bytes.now (search rules) (search rules) (search rules) ]
+returns-in-1 c = boolean_one c.args.room c.args.bytes.now (search rules) (search rules) (search rules)
 
 pub returns-in-0 : goal.returns-in-0
-returns-in-0 c =
-    elim c.in-0-1.branch [ then-bytes-lt2+in-0-1 w ↦ nil_one c.args.room c.args.bytes.now (search rules) (search rules) | else-bytes-lt2+then-bytes-lt5+in-0-1 w ↦ nil_one c.args.room c.args.bytes.now (search rules) (search rules) | else-bytes-lt2+else-bytes-lt5+then-bytes-lt9+in-0-1 w ↦ nil_one c.args.room c.args.bytes.now (search rules) (search rules) | else-bytes-lt2+else-bytes-lt5+else-bytes-lt9+in-0-1 w ↦ nil_one c.args.room c.args.bytes.now (search rules) (search rules) ]
+returns-in-0 c = nil_one c.args.room c.args.bytes.now (search rules) (search rules)
