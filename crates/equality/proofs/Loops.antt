@@ -1,9 +1,13 @@
 -- Loops over items and entries: what is left gives the answer.
-use Rattle.std.proofs.Common.{◌≡◌, ℤ, ℕ, zero, suc, ◌+◌, ◌*◌, ◌<◌, ◌≤◌, Bool, true, false, ◌&&◌, ◌||◌, List, is_some, Some, None, Option, sym, refl, ap, ◌∙◌, ap₂, eqb, w64, SFits, of_z, rules}
+use Rattle.std.proofs.Common.{◌≡◌, ℤ, ℕ, zero, suc, ◌+◌, ◌*◌, ◌<◌, ◌≤◌, Bool, true, false, ◌&&◌, ◌||◌, List, is_some, Some, None, Option, sym, refl, ap, ◌∙◌, ap₂, vec_items, eqb, w64, SFits, of_z, rules}
 use Rattle.std.specs.Option.{option_map}
 use mathlib.Core.Bool.{beq}
+use Rattle.tray.specs.declared.records.Record.{Record}
+use Rattle.tray.specs.declared.trays.Tray.{Tray}
+use Rattle.tray.specs.Sound.{at}
 use Rattle.values.specs.Value.{Value, Entries, empty, find, within, equal, equal_items, agrees, found, same_boolean, same_whole}
-use Rattle.values.specs.Meaning.{items_from, entries_from}
+use Rattle.values.specs.Meaning.{items_from, entries_from, shape, value_of, text_at}
+use Rattle.values.proofs.Unfolds.{both}
 use Rattle.values.proofs.Rests.{items_left, entries_left, items_none, items_all, items_more, entries_none, entries_all, entries_more, put_more}
 
 -- the walk that looks each key up
@@ -115,3 +119,7 @@ booleans_same false false = refl
 
 pub wholes_same : (a b : ℤ) → SFits w64 a → SFits w64 b → eqb (of_z w64 a) (of_z w64 b) ≡ same_whole a b
 wholes_same a b p q = search rules
+
+-- the values of two records of a tray, by the records that stand there
+pub pair_is : (t : Tray) (a b : ℕ) (r s : Record) → r ≡ at (vec_items t.records) a → s ≡ at (vec_items t.records) b → equal (shape t.text.now (text_at t) (value_of t) r) (shape t.text.now (text_at t) (value_of t) s) ≡ equal (value_of t a) (value_of t b)
+pair_is t a b r s e f = sym (both (vec_items t.records) t.text.now a b r s t.behind e f)

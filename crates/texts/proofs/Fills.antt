@@ -68,5 +68,11 @@ module _ {f : ℕ → Value} {whole : List ℕ} {from : ℕ} {old : List ℕ} wh
   laying_step {c} {stop} {mid} {end} inv l r {new} {last} x =
       record { done = inv.done ++ written (f c); laid = lay_more inv.laid r x; is = append_assoc inv.done (written (f c)) (written_all f (c + 1) (stop - (c + 1))) ∙ ap (λ t. inv.done ++ t) (sym (all_more f c stop l)) ∙ inv.is }
 
+  -- the same as a range goes on: c was its first, and it begins behind it now
+  pub laying_next : {at stop : ℕ} {mid : List ℕ} {end : ℕ} → Laying f whole at stop from old mid end → {c behind last : ℕ} → at ≡ c → behind ≡ at + 1 → last ≡ stop → at < stop → from ≤ length old → {new : List ℕ} {next : ℕ} → LaidAt end (written (f c)) mid new next → Laying f whole behind last from old new next
+  laying_next {at} {stop} {mid} {end} inv {c} {behind} {last} e b z l r {new} {next} x =
+      let y = laying_step inv l r (subst (λ k. LaidAt end (written (f k)) mid new next) (sym e) x) in
+      rw (b, z) y
+
   pub laying_end : {c stop : ℕ} {new : List ℕ} {end : ℕ} → Laying f whole c stop from old new end → stop ≤ c → LaidAt from whole old new end
   laying_end {c} {stop} inv l = lay_as inv.laid whole (sym inv.is ∙ ap (λ t. inv.done ++ t) (all_done f c stop l) ∙ append-nil inv.done)

@@ -1,12 +1,14 @@
 -- The text of a record: its own, and then that of each record that it holds.
-use Rattle.std.proofs.Common.{◌≡◌, ℕ, zero, suc, ◌+◌, ◌-◌, ◌*◌, ◌<◌, ◌≤◌, List, [], ◌++◌, length, sym, refl, ap, ◌∙◌, arith}
+use Rattle.std.proofs.Common.{◌≡◌, ℕ, zero, suc, ◌+◌, ◌-◌, ◌*◌, ◌<◌, ◌≤◌, List, [], ◌++◌, length, vec_items, sym, refl, ap, ◌∙◌, arith}
 use Rattle.std.proofs.lemmas.List.{append-nil}
 use Rattle.tray.specs.declared.records.Record.{Record}
 use Rattle.tray.specs.declared.records.Record.TheVariants.{Nil, Boolean, Whole, Text, Array, Object}
-use Rattle.tray.specs.Sound.{at, first_of, width_of, Holds, Behind, Inside, KeysText}
+use Rattle.tray.specs.declared.trays.Tray.{Tray}
+use Rattle.tray.specs.Records.{record_of}
+use Rattle.tray.specs.Sound.{at, first_of, width_of, Holds, Behind, KeysText}
 use Rattle.values.specs.Value.{Value, none, item, text, written, written_items, written_entries}
 use Rattle.texts.specs.Laws.{ArrayTextJoined}
-use Rattle.values.specs.Meaning.{items_from, entries_from, shape, key_at, value_at}
+use Rattle.values.specs.Meaning.{items_from, entries_from, shape, key_at, value_at, value_of}
 use Rattle.texts.specs.Written.{leaf_text}
 use Rattle.values.proofs.Unfolds.{stands}
 use Rattle.values.proofs.Listing.{key_text_lem}
@@ -45,20 +47,29 @@ module _ (rs : List Record) (tx : List ℕ) (b : Behind rs) (keys : KeysText rs)
       entries_written (key_at rs tx) (value_at rs tx) s.first s.count (2 * s.count) refl
       (λ j l. key_text_lem rs tx b (s.first + 2 * j) (keys (s.first + 2 * j) (record { h = i; s = s; j = j; is = sym e; below = l; place = refl })))
 
-  pub written_is : (r : Record) → r ≡ at rs i → (first stop : ℕ) → first ≡ first_of r → stop ≡ first_of r + width_of r → written (value_at rs tx i) ≡ leaf_text tx (at rs i) ++ written_all (value_at rs tx) first (stop - first)
+  written_is : (r : Record) → r ≡ at rs i → (first stop : ℕ) → first ≡ first_of r → stop ≡ first_of r + width_of r → written (value_at rs tx i) ≡ leaf_text tx (at rs i) ++ written_all (value_at rs tx) first (stop - first)
   written_is r e first stop ef es =
       let w : width_of r ≡ stop - first = omega arith in
       ap written (stands rs tx i r b e) ∙ own r e ∙ ap (λ x. leaf_text tx x ++ written_all (value_at rs tx) (first_of r) (width_of r)) e
       ∙ ap (λ k. leaf_text tx (at rs i) ++ written_all (value_at rs tx) k (width_of r)) (sym ef)
       ∙ ap (λ n. leaf_text tx (at rs i) ++ written_all (value_at rs tx) first n) w
 
+-- the text of record i of a tray, where the record was read
+pub text_is : (t : Tray) (i : ℕ) (r : Record) → r ≡ record_of t i → (first stop : ℕ) → first ≡ first_of r → stop ≡ first_of r + width_of r → written (value_of t i) ≡ leaf_text t.text.now (record_of t i) ++ written_all (value_of t) first (stop - first)
+text_is t i r e = written_is (vec_items t.records) t.text.now t.behind t.keys i r e
+
 -- what a record holds stands behind it and is there
-pub held_lies : (rs : List Record) (i c : ℕ) (r : Record) → Behind rs → Inside rs → r ≡ at rs i → first_of r ≤ c → c < first_of r + width_of r → (i < c) × (c < length rs)
-held_lies rs i c r b s e lo hi =
+pub held_lies : (t : Tray) (i c : ℕ) (r : Record) → r ≡ record_of t i → first_of r ≤ c → c < first_of r + width_of r → (i < c) × (c < length (vec_items t.records))
+held_lies t i c r e lo hi =
     let f = ap first_of e in
     let w = ap width_of e in
-    let h : Holds rs i c = record { low = omega arith; high = omega arith } in
-    (b i c h, s i c h)
+    let h : Holds (vec_items t.records) i c = record { low = omega arith; high = omega arith } in
+    (t.behind i c h, t.inside i c h)
+
+-- a walk over the records from `first` up to `last` has come to c, and goes on to `stop`
+pub record Walking (first last c stop : ℕ) : Type 0 where
+  pub low : first ≤ c
+  pub high : stop ≡ last
 
 -- what is to come of the records before `stop`
 pub all_more : (f : ℕ → Value) (c stop : ℕ) → c < stop → written_all f c (stop - c) ≡ written (f c) ++ written_all f (c + 1) (stop - (c + 1))

@@ -55,6 +55,12 @@ module _ {f : ℕ → Value} {whole : List ℕ} {room : ℕ} where
       let p = left_some left _ next s in
       record { used = inv.used + length (written (f c)); rest = omega (arith, inv.rest, p.0, p.1); is = omega (arith, inv.is, part f c stop l) }
 
+  -- the same as a range goes on: c was its first, and it begins behind it now
+  pub left_next : {at stop left : ℕ} → Left f whole room at stop left → {c behind end : ℕ} → at ≡ c → behind ≡ at + 1 → end ≡ stop → at < stop → (next : ℕ) → Some next ≡ leaves left (length (written (f c))) → Left f whole room behind end next
+  left_next {at} {stop} {left} inv {c} {behind} {end} e b z l next s =
+      let r = left_step inv l next (s ∙ ap (λ k. leaves left (length (written (f k)))) (sym e)) in
+      rw (b, z) r
+
   pub left_stop : {c stop left : ℕ} → Left f whole room c stop left → c < stop → None ≡ leaves left (length (written (f c))) → None ≡ leaves room (length whole)
   left_stop {c} {stop} {left} inv l s =
       none_left _ _ (omega (arith, inv.rest, inv.is, part f c stop l, left_none left _ s))

@@ -19,8 +19,7 @@ fn left_after(tray: &Tray, i: usize, room: usize) -> Option<usize>
 {
     let held = tray.record(i).holds();
     let mut left = after(room, leaf_len(tray, i))?;
-    // From end to end: over the range itself the proof would follow the fields of an iterator.
-    for c in held.start..held.end {
+    for c in held {
         left = left_after(tray, c, left)?;
     }
     Some(left)

@@ -25,8 +25,7 @@ fn fill(tray: &Tray, i: usize, out: &mut [u8], from: usize) -> usize
 {
     let held = tray.record(i).holds();
     let mut end = leaf_at(tray, i, out, from);
-    // From end to end: over the range itself the proof would follow the fields of an iterator.
-    for c in held.start..held.end {
+    for c in held {
         end = fill(tray, c, out, end);
     }
     end

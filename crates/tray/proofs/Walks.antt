@@ -102,6 +102,13 @@ hold_more {h} {from} {c} {old} {marks} t fc el lh ll nh =
         ⊎_elim (λ e. inr (omega arith, omega arith))
         (λ ne. ⊎_elim inl (λ p. inr (p.0, omega (arith, p.1))) (t.back k (sym (get_or-set_other marks c k true false ne) ∙ x))) (cases_eq k c)
 
+-- the records from `from` up to c are taken, and those up to `to` are still to come
+pub record Taking (h from to c end : ℕ) (old new : List Bool) : Type 0 where
+  pub low : from ≤ c
+  pub high : c ≤ to
+  pub last : end ≡ to
+  pub took : Took h from (c - from) old new
+
 pub hold_none : (h from width : ℕ) (marks : List Bool) → width ≡ 0 → Took h from width marks marks
 hold_none h from width marks e = record { behind = λ c lo hi. absurd (omega arith); inside = λ c lo hi. absurd (omega arith); free = λ c lo hi. absurd (omega arith); into = λ c lo hi. absurd (omega arith); kept = λ c x. x; back = λ c x. inl x }
 

@@ -29,8 +29,7 @@ fn hold(held: &mut [bool], h: usize, records: Range<usize>) -> bool
     requires { records.start ≤ records.end }
     ensures { MatchBool result (Took h records.start (records.end - records.start) held.old held.new) (Barred h records.start (records.end - records.start) held.old) }
 {
-    // From end to end: over the range itself the proof would follow the fields of an iterator, four facts more.
-    for c in records.start..records.end {
+    for c in records {
         if c <= h || c >= held.len() || held[c] {
             return false;
         }

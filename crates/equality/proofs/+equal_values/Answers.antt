@@ -4,8 +4,8 @@ use Rattle.tray.specs.Parts.{key_of, same_text}
 use Rattle.tray.specs.Sound.{at}
 use Rattle.values.specs.Value.{equal}
 use Rattle.values.specs.Meaning.{value_of, text_at}
-use Rattle.values.proofs.Unfolds.{both, array_lies, object_lies, not_nil, not_boolean, not_whole, not_text, not_array, not_object}
-use Rattle.equality.proofs.Loops.{pair_none, pair_more, pair_stop, pair_all, pair_apart, agree_none, agree_more, agree_stop, agree_all, pass_hidden, pass_seen, and_goes, and_stops, booleans_same, wholes_same}
+use Rattle.values.proofs.Unfolds.{array_lies, object_lies, not_nil, not_boolean, not_whole, not_text, not_array, not_object}
+use Rattle.equality.proofs.Loops.{pair_none, pair_more, pair_stop, pair_all, pair_apart, agree_none, agree_more, agree_stop, agree_all, pass_hidden, pass_seen, and_goes, and_stops, booleans_same, wholes_same, pair_is}
 use Rattle.equality.proofs.+equal_values.Goals as goal
 use Rattle.equality.proofs.+equal_values.Goals.{agrees-then-is_none+in-Some+else-not-equal_at, agrees-else-is_none}
 
@@ -53,27 +53,13 @@ pub equal_items-returns : goal.equal_items-returns
 equal_items-returns t c = pair_all c.loop-j.invariant (omega arith) (omega arith)
 
 pub equal_at-returns-in-Nil-Nil : goal.equal_at-returns-in-Nil-Nil
-equal_at-returns-in-Nil-Nil t c =
-    let x = c.args.tray.now in
-    let e : Nil ≡ at (vec_items x.records) c.args.a = search rules in
-    let f : Nil ≡ at (vec_items x.records) c.args.b = search rules in
-    sym (both _ _ _ _ _ _ x.behind e f)
+equal_at-returns-in-Nil-Nil t c = pair_is c.args.tray.now c.args.a c.args.b Nil Nil (search rules) (search rules)
 
 pub equal_at-returns-in-Boolean-Boolean : goal.equal_at-returns-in-Boolean-Boolean
-equal_at-returns-in-Boolean-Boolean t c =
-    let x = c.args.tray.now in
-    let e : Boolean c.in-Boolean-Boolean.x ≡ at (vec_items x.records) c.args.a = search rules in
-    let f : Boolean c.in-Boolean-Boolean.y ≡ at (vec_items x.records) c.args.b = search rules in
-    booleans_same c.in-Boolean-Boolean.x c.in-Boolean-Boolean.y ∙ sym (both _ _ _ _ _ _ x.behind e f)
+equal_at-returns-in-Boolean-Boolean t c = booleans_same c.in-Boolean-Boolean.x c.in-Boolean-Boolean.y ∙ pair_is c.args.tray.now c.args.a c.args.b (Boolean c.in-Boolean-Boolean.x) (Boolean c.in-Boolean-Boolean.y) (search rules) (search rules)
 
 pub equal_at-returns-in-Whole-Whole : goal.equal_at-returns-in-Whole-Whole
-equal_at-returns-in-Whole-Whole t c =
-    let x = c.args.tray.now in
-    let e : Whole c.in-Whole-Whole.x ≡ at (vec_items x.records) c.args.a = search rules in
-    let f : Whole c.in-Whole-Whole.y ≡ at (vec_items x.records) c.args.b = search rules in
-    let p : SFits w64 c.in-Whole-Whole.x = search rules in
-    let q : SFits w64 c.in-Whole-Whole.y = search rules in
-    wholes_same c.in-Whole-Whole.x c.in-Whole-Whole.y p q ∙ sym (both _ _ _ _ _ _ x.behind e f)
+equal_at-returns-in-Whole-Whole t c = wholes_same c.in-Whole-Whole.x c.in-Whole-Whole.y (search rules) (search rules) ∙ pair_is c.args.tray.now c.args.a c.args.b (Whole c.in-Whole-Whole.x) (Whole c.in-Whole-Whole.y) (search rules) (search rules)
 
 pub equal_at-returns-in-Text-Text : goal.equal_at-returns-in-Text-Text
 equal_at-returns-in-Text-Text t c =
@@ -81,64 +67,34 @@ equal_at-returns-in-Text-Text t c =
     let e : Text c.in-Text-Text.field-0-0 ≡ at (vec_items x.records) c.args.a = search rules in
     let f : Text c.in-Text-Text.field-0-1 ≡ at (vec_items x.records) c.args.b = search rules in
     c.same_text.ensures ∙ ap₂ same_text (c.text_of.ensures ∙ ap (key_of x.text.now) (sym e)) (c.text_of-in-Text-Text.ensures ∙ ap (key_of x.text.now) (sym f))
-    ∙ sym (both _ _ _ _ _ _ x.behind e f)
+    ∙ pair_is x c.args.a c.args.b _ _ e f
 
 pub equal_at-returns-in-Array-Array : goal.equal_at-returns-in-Array-Array
-equal_at-returns-in-Array-Array t c =
-    let x = c.args.tray.now in
-    let e : Array c.in-Array-Array.s ≡ at (vec_items x.records) c.args.a = search rules in
-    let f : Array c.in-Array-Array.t ≡ at (vec_items x.records) c.args.b = search rules in
-    c.equal_items.ensures ∙ sym (both _ _ _ _ _ _ x.behind e f)
+equal_at-returns-in-Array-Array t c = c.equal_items.ensures ∙ pair_is c.args.tray.now c.args.a c.args.b (Array c.in-Array-Array.s) (Array c.in-Array-Array.t) (search rules) (search rules)
 
 pub equal_at-returns-then-agrees : goal.equal_at-returns-then-agrees
-equal_at-returns-then-agrees t c =
-    let x = c.args.tray.now in
-    let e : Object c.in-Object-Object.s ≡ at (vec_items x.records) c.args.a = search rules in
-    let f : Object c.in-Object-Object.t ≡ at (vec_items x.records) c.args.b = search rules in
-    and_goes _ _ _ c.if-agrees.ensures c.within.ensures ∙ sym (both _ _ _ _ _ _ x.behind e f)
+equal_at-returns-then-agrees t c = and_goes _ _ _ c.if-agrees.ensures c.within.ensures ∙ pair_is c.args.tray.now c.args.a c.args.b (Object c.in-Object-Object.s) (Object c.in-Object-Object.t) (search rules) (search rules)
 
 pub equal_at-returns-else-agrees : goal.equal_at-returns-else-agrees
-equal_at-returns-else-agrees t c =
-    let x = c.args.tray.now in
-    let e : Object c.in-Object-Object.s ≡ at (vec_items x.records) c.args.a = search rules in
-    let f : Object c.in-Object-Object.t ≡ at (vec_items x.records) c.args.b = search rules in
-    and_stops _ _ _ c.if-agrees.ensures c.if-agrees.false ∙ sym (both _ _ _ _ _ _ x.behind e f)
+equal_at-returns-else-agrees t c = and_stops _ _ _ c.if-agrees.ensures c.if-agrees.false ∙ pair_is c.args.tray.now c.args.a c.args.b (Object c.in-Object-Object.s) (Object c.in-Object-Object.t) (search rules) (search rules)
 
 pub equal_at-returns-in_default : goal.equal_at-returns-in_default
-equal_at-returns-in_default t c =
-    let x = c.args.tray.now in
-    let e : Nil ≡ at (vec_items x.records) c.args.a = search rules in
-    not_nil _ _ _ _ c.in_default.not-Nil-1 ∙ sym (both _ _ _ _ _ _ x.behind e c.record-2.ensures)
+equal_at-returns-in_default t c = not_nil _ _ _ _ c.in_default.not-Nil-1 ∙ pair_is c.args.tray.now c.args.a c.args.b Nil _ (search rules) c.record-2.ensures
 
 pub equal_at-returns-in_default-2 : goal.equal_at-returns-in_default-2
-equal_at-returns-in_default-2 t c =
-    let x = c.args.tray.now in
-    let e : Boolean c.in_default.field-0-0 ≡ at (vec_items x.records) c.args.a = search rules in
-    not_boolean _ _ _ _ _ c.in_default.not-Boolean-1 ∙ sym (both _ _ _ _ _ _ x.behind e c.record-2.ensures)
+equal_at-returns-in_default-2 t c = not_boolean _ _ _ _ _ c.in_default.not-Boolean-1 ∙ pair_is c.args.tray.now c.args.a c.args.b (Boolean c.in_default.field-0-0) _ (search rules) c.record-2.ensures
 
 pub equal_at-returns-in_default-3 : goal.equal_at-returns-in_default-3
-equal_at-returns-in_default-3 t c =
-    let x = c.args.tray.now in
-    let e : Whole c.in_default.field-0-0 ≡ at (vec_items x.records) c.args.a = search rules in
-    not_whole _ _ _ _ _ c.in_default.not-Whole-1 ∙ sym (both _ _ _ _ _ _ x.behind e c.record-2.ensures)
+equal_at-returns-in_default-3 t c = not_whole _ _ _ _ _ c.in_default.not-Whole-1 ∙ pair_is c.args.tray.now c.args.a c.args.b (Whole c.in_default.field-0-0) _ (search rules) c.record-2.ensures
 
 pub equal_at-returns-in_default-4 : goal.equal_at-returns-in_default-4
-equal_at-returns-in_default-4 t c =
-    let x = c.args.tray.now in
-    let e : Text c.in_default.field-0-0 ≡ at (vec_items x.records) c.args.a = search rules in
-    not_text _ _ _ _ _ c.in_default.not-Text-1 ∙ sym (both _ _ _ _ _ _ x.behind e c.record-2.ensures)
+equal_at-returns-in_default-4 t c = not_text _ _ _ _ _ c.in_default.not-Text-1 ∙ pair_is c.args.tray.now c.args.a c.args.b (Text c.in_default.field-0-0) _ (search rules) c.record-2.ensures
 
 pub equal_at-returns-in_default-5 : goal.equal_at-returns-in_default-5
-equal_at-returns-in_default-5 t c =
-    let x = c.args.tray.now in
-    let e : Array c.in_default.field-0-0 ≡ at (vec_items x.records) c.args.a = search rules in
-    not_array _ _ _ _ _ c.in_default.not-Array-1 ∙ sym (both _ _ _ _ _ _ x.behind e c.record-2.ensures)
+equal_at-returns-in_default-5 t c = not_array _ _ _ _ _ c.in_default.not-Array-1 ∙ pair_is c.args.tray.now c.args.a c.args.b (Array c.in_default.field-0-0) _ (search rules) c.record-2.ensures
 
 pub equal_at-returns-in_default-6 : goal.equal_at-returns-in_default-6
-equal_at-returns-in_default-6 t c =
-    let x = c.args.tray.now in
-    let e : Object c.in_default.field-0-0 ≡ at (vec_items x.records) c.args.a = search rules in
-    not_object _ _ _ _ _ c.in_default.not-Object-1 ∙ sym (both _ _ _ _ _ _ x.behind e c.record-2.ensures)
+equal_at-returns-in_default-6 t c = not_object _ _ _ _ _ c.in_default.not-Object-1 ∙ pair_is c.args.tray.now c.args.a c.args.b (Object c.in_default.field-0-0) _ (search rules) c.record-2.ensures
 
 pub equal_at-equal_items-requires : goal.equal_at-equal_items-requires
 equal_at-equal_items-requires t c =

@@ -1,6 +1,7 @@
 use Rattle.std.proofs.Common.{◌-◌}
 use Rattle.values.specs.Value.{written}
 use Rattle.values.specs.Meaning.{value_of, count_of}
+use Rattle.texts.proofs.LeafTexts.{Walking}
 use Rattle.texts.proofs.Fills.{Laying}
 use Rattle.texts.proofs.write.+fill.Given as goal
 
@@ -9,4 +10,6 @@ abbrev pub decreases-fill : goal.decreases-fill
 decreases-fill l = count_of l.tray.now - l.i
 
 abbrev pub invariant-loop-c : goal.invariant-loop-c
-invariant-loop-c l = Laying (value_of l.tray) (written (value_of l.tray l.i)) l.c l.c-end l.from l.fn.out l.out l.end
+invariant-loop-c l =
+    Walking l.initial.c-iterator.start l.initial.c-iterator.end l.c-iterator.start l.c-iterator.end
+    × Laying (value_of l.tray) (written (value_of l.tray l.i)) l.c-iterator.start l.c-iterator.end l.from l.fn.out l.out l.end
