@@ -20,7 +20,7 @@ pub trait Bank {
         ensures same { meaning self.new ≡ meaning self.old };
 
     /// What the function of that name gives. A text is left in `answer` and then zeros, a number leaves zeros, and a cause nothing.
-    // A fixed buffer, whose length of text is answered beside it: a filter never allocates, and the whole buffer is promised.
+    // The caller's whole buffer, with the length of the text beside it: what stands behind the text is promised too.
     fn apply(
         &mut self,
         name: &[u8],

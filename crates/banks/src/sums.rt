@@ -16,6 +16,7 @@ use numerals::read_whole;
 #[derive(Clone, Copy, Debug, PartialEq, Eq)]
 pub struct Sums;
 
+// An enum: a function that hands out a function is not let through.
 #[derive(Clone, Copy, Debug, PartialEq, Eq)]
 enum Operation {
     Plus,

@@ -22,10 +22,7 @@ fn missing<'a>() -> Option<Operand<'a>> {
 }
 
 fn text<'a>(bytes: &'a [u8]) -> Operand<'a> {
-    match Short::new(bytes) {
-        Some(t) => Operand::Text(t),
-        None => Operand::Nil,
-    }
+    Short::new(bytes).map_or(Operand::Nil, Operand::Text)
 }
 
 fn sum(name: &[u8], a: i64, b: i64) -> Result<Answer, Cause> {

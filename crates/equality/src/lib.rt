@@ -40,6 +40,7 @@ fn equal_at(tray: &Tray, a: usize, b: usize) -> bool
     }
 }
 
+// `holder` holds the items s, and the recursion falls by it. As a ghost parameter it gets no proof in a cycle.
 #[cycle(equal_values)]
 fn equal_items(tray: &Tray, holder: usize, s: Span, t: Span) -> bool
     requires { Below holder s.first s.count (count_of tray.now) }

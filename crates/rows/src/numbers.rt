@@ -43,7 +43,7 @@ impl Row for Numbers {
     fn item(&self, k: usize) -> Option<i64> {
         // Read whole, so that both ends are known to be 64-bit numbers.
         let numbers = *self;
-        // `then` would have to hand its closure the bound as a `requires`.
+        // `then` was tried: what it asks of its closure did not close.
         if k < self.count() {
             Some(numbers.from + k as i64)
         } else {

@@ -4,6 +4,7 @@ ghost use Rattle.rows.specs.First.{first_from, FirstAt, NoneAt};
 use crate::row::Row;
 
 /// An equality on items, with all that it must know of the world, such as the tray that holds them.
+// A trait and no closure: a closure's contract would be asked of whoever calls `first_match`.
 pub trait Equality<T> {
     ghost equals: { Self → T → T → Bool };
 

@@ -1,13 +1,11 @@
 -- How much of a room is left after the parts of a text.
 use Rattle.std.proofs.Common.{◌≡◌, ℕ, ◌+◌, ◌-◌, ◌<◌, ◌≤◌, leb, List, ◌++◌, length, Some, None, sym, ap, ◌∙◌, ⊎_elim, arith}
+use Rattle.std.proofs.lemmas.Option.{none-some}
 use Rattle.std.proofs.lemmas.List.{length-append}
 use Rattle.std.proofs.lemmas.Bool.{le-leb, lt-leb, cond-true, cond-false, cases_Bool, leb-true, leb-false}
 use Rattle.values.specs.Value.{Value, written}
 use Rattle.texts.specs.Written.{leaves}
 use Rattle.texts.proofs.LeafTexts.{written_all, all_more, all_done}
-
-some_none : {P : Type 0} (n : ℕ) → Some n ≡ None → P
-some_none n e = let z : ◌≡◌ {A = ℕ} 0 1 = cc in absurd (omega arith)
 
 some_is : (m n : ℕ) → Some m ≡ Some n → m ≡ n
 some_is m n e = cc
@@ -16,11 +14,11 @@ some_is m n e = cc
 pub left_some : (room n left : ℕ) → Some left ≡ leaves room n → (n ≤ room) × (left ≡ room - n)
 left_some room n left e =
     ⊎_elim (λ t. (leb-true n room t, some_is left (room - n) (e ∙ cond-true (leb n room) (Some (room - n)) None t)))
-    (λ f. some_none left (e ∙ cond-false (leb n room) (Some (room - n)) None f)) (cases_Bool (leb n room))
+    (λ f. absurd (none-some left (sym (e ∙ cond-false (leb n room) (Some (room - n)) None f)))) (cases_Bool (leb n room))
 
 pub left_none : (room n : ℕ) → None ≡ leaves room n → room < n
 left_none room n e =
-    ⊎_elim (λ t. some_none (room - n) (sym (e ∙ cond-true (leb n room) (Some (room - n)) None t)))
+    ⊎_elim (λ t. absurd (none-some (room - n) (e ∙ cond-true (leb n room) (Some (room - n)) None t)))
     (λ f. leb-false n room f) (cases_Bool (leb n room))
 
 -- a text too long leaves nothing, and so does a longer one
