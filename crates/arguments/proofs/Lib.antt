@@ -3,3 +3,4 @@ pub mod Entering
 pub mod Chaining
 pub mod Paths
 pub mod Lying
+pub mod Specials
