@@ -19,7 +19,7 @@ Behind f p (Some q) = (0 < f p.src.now p.at) × Past f p q
 abbrev pub one : Class → List ℕ → ℕ → ℕ
 one class src at = cond (stands class src at) 1 0
 
--- q is the place before the first of these bytes; none where a place behind them has more than 64 bits
+-- q is the place before the first of these bytes; none where the place behind the last has more than 64 bits
 abbrev pub Anchors : Placed → Option Anchored → Type 0
 Anchors w None = 2 ^ 64 ≤ w.place + length w.bytes.now
 Anchors w (Some q) = (q.base ≡ w.place) × (q.here.src.now ≡ w.bytes.now) × (q.here.at ≡ 0)

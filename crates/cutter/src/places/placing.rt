@@ -3,7 +3,7 @@ ghost use Rattle.cutter.specs.Places.{Anchors};
 use crate::places::{Anchored, Place, Placed};
 
 impl<'a> Anchored<'a> {
-    // Before the first of these bytes; nothing where a place behind them has more than 64 bits.
+    // Before the first of these bytes; nothing where the place behind the last has more than 64 bits.
     pub(crate) fn new(written: Placed<'a>) -> Option<Self>
         ensures { Anchors written.entry result }
     {
