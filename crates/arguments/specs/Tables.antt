@@ -2,7 +2,7 @@
 use Rattle.std.specs.Prelude.{◌≡◌, ℕ, ◌+◌, ◌<◌, ◌≤◌, true, false, List, map, length, take, drop, Ok, Err, vec_items, Result}
 use Rattle.tray.specs.Parts.{cut}
 use Rattle.cutter.specs.Ahead.{ahead}
-use Rattle.cutter.specs.declared.tokens.Word.{Word}
+use Rattle.cutter.specs.declared.places.Placed.{Placed}
 use Rattle.nodes.specs.declared.exprs.Part.{Part}
 use Rattle.nodes.specs.declared.exprs.Filter.{Filter}
 use Rattle.nodes.specs.Exprs.{Pool}
@@ -73,7 +73,7 @@ pub record Lies (source : List ℕ) (place : ℕ) (b : List ℕ) : Type 0 where
   pub is : b ≡ take (length b) (drop place source)
 
 -- a token as the definition sees it
-pub record Shown (source : List ℕ) (w : Word) (y : Seen) : Type 0 where
+pub record Shown (source : List ℕ) (w : Placed) (y : Seen) : Type 0 where
   pub is : y ≡ seen w.place w.bytes.now
   pub lies : Lies source w.place w.bytes.now
 

@@ -20,7 +20,7 @@ pub enum CycleName {
 }
 
 /// The source and the tables that it is read into; and the tokens of the mark at `mark` that are ahead.
-#[derive(Drop)]
+#[derive(Debug, PartialEq, Eq, Drop)]
 pub struct Reader<'a> {
     pub source: &'a [u8],
     pub names: Vec<Part>,

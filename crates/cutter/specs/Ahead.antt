@@ -2,20 +2,20 @@
 use Rattle.std.specs.Prelude.{◌≡◌, Some, None, Ok, Err, Option, Result}
 use Rattle.cutter.specs.Words.{Words, over, wrong, word, words_from, verdict}
 use Rattle.cutter.specs.declared.tokens.Cursor.{Cursor}
-use Rattle.cutter.specs.declared.tokens.Word.{Word}
+use Rattle.cutter.specs.declared.places.Placed.{Placed}
 use Rattle.cutter.specs.declared.tokens.NoToken.{NoToken}
 
 abbrev pub ahead : Cursor → Words
 ahead c = words_from c.rest.src.now c.rest.at
 
 -- what `next` answers, by what was ahead before and what is ahead after
-abbrev pub Took : Words → Result (Option Word) NoToken → Words → Type 0
+abbrev pub Took : Words → Result (Option Placed) NoToken → Words → Type 0
 Took before (Ok None) after = (before ≡ over) × (after ≡ over)
 Took before (Ok (Some w)) after = before ≡ word w.place w.bytes.now after
 Took before (Err e) after = (before ≡ wrong e.place) × (after ≡ before)
 
 -- what `peek` answers, by what is ahead
-abbrev pub Sees : Words → Result (Option Word) NoToken → Type 0
+abbrev pub Sees : Words → Result (Option Placed) NoToken → Type 0
 Sees now (Ok None) = now ≡ over
 Sees now (Ok (Some w)) = (rest : Words) × (now ≡ word w.place w.bytes.now rest)
 Sees now (Err e) = now ≡ wrong e.place

@@ -16,7 +16,7 @@ left c = scan c.state c.start (slice c.rest.src.now c.start c.rest.at) (drop c.r
 
 -- what `next` answers, by what was left before and what is left after
 abbrev pub Gave : Cut → Result (Option Piece) Unclosed → Cut → Type 0
-Gave before (Ok (Some (Text place bytes))) after = before ≡ text place bytes.now after
-Gave before (Ok (Some (Mark kind place inside))) after = before ≡ mark kind place inside.now after
+Gave before (Ok (Some (Text t))) after = before ≡ text t.place t.bytes.now after
+Gave before (Ok (Some (Mark kind m))) after = before ≡ mark kind m.place m.bytes.now after
 Gave before (Ok None) after = (before ≡ done) × (after ≡ done)
 Gave before (Err e) after = (before ≡ unclosed e.place) × (after ≡ before)

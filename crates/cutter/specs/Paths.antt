@@ -42,11 +42,11 @@ unfoldable pub steps_of : ℕ → List ℕ → List PlacedStep
 steps_of place bs = cond (nat_lt (place + length bs) (2 ^ 64)) (steps_from place bs 0) []
 
 abbrev pub steps_left : Steps → List PlacedStep
-steps_left s = steps_from s.place s.rest.src.now s.rest.at
+steps_left s = steps_from s.rest.base s.rest.here.src.now s.rest.here.at
 
 abbrev pub placed_step : StepWord → PlacedStep
 placed_step (Index z) = at_index z
-placed_step (Key place key) = at_key place key.now
+placed_step (Key k) = at_key k.place k.bytes.now
 
 -- what `next` answers, by the steps left before and after
 abbrev pub Walked : List PlacedStep → Option StepWord → List PlacedStep → Type 0

@@ -5,6 +5,6 @@
 pub mod lengths;
 pub mod paths;
 pub mod pieces;
-mod places;
+pub mod places;
 pub mod state;
 pub mod tokens;

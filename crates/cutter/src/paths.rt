@@ -1,7 +1,5 @@
 // The steps of a path.
-ghost use Rattle.std.specs.Prelude.{◌+◌, ◌^◌, ◌<◌, length};
-
-use crate::places::Place;
+use crate::places::{Anchored, Placed};
 
 pub mod walk;
 
@@ -9,13 +7,11 @@ pub mod walk;
 #[derive(Clone, Copy, Debug, PartialEq, Eq)]
 pub enum StepWord<'a> {
     Index(i64),
-    Key(usize, &'a [u8]),
+    Key(Placed<'a>),
 }
 
-/// The steps in some bytes as written, whose first byte is at `place`, taken up to a place among them.
-#[derive(Clone, Copy)]
+/// The steps in some bytes as written, taken up to a place among them.
+#[derive(Clone, Copy, Debug, PartialEq, Eq)]
 pub struct Steps<'a> {
-    place: usize,
-    rest: Place<'a>,
-    ghost fits: { place + length rest.src.now < 2 ^ 64 },
+    rest: Anchored<'a>,
 }

@@ -2,7 +2,7 @@
 ghost use Rattle.std.specs.Prelude.{◌≡◌, true};
 ghost use Rattle.cutter.specs.Scan.{placed};
 
-use crate::places::Place;
+use crate::places::{Place, Placed};
 use crate::state::{Kind, State};
 
 pub mod next;
@@ -10,8 +10,8 @@ pub mod next;
 /// A piece of a part, with the place where it begins: a text, or a mark with the bytes between its opening and its closing mark.
 #[derive(Clone, Copy, Debug, PartialEq, Eq)]
 pub enum Piece<'a> {
-    Text(usize, &'a [u8]),
-    Mark(Kind, usize, &'a [u8]),
+    Text(Placed<'a>),
+    Mark(Kind, Placed<'a>),
 }
 
 /// Refusal 3: the mark that begins at `place` is not closed.
@@ -21,7 +21,7 @@ pub struct Unclosed {
 }
 
 /// Bytes, cut up to `start`, where a piece begins that is read up to a place behind it.
-#[derive(Drop)]
+#[derive(Debug, PartialEq, Eq, Drop)]
 pub struct Cutter<'a> {
     rest: Place<'a>,
     start: usize,

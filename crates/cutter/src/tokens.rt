@@ -1,16 +1,12 @@
 // The tokens of a mark's inside.
 use crate::lengths::Symbol;
-use crate::places::Place;
+use crate::places::{Place, Placed};
 
 pub mod ahead;
 pub mod reading;
 
 /// A token as written, with its place.
-#[derive(Clone, Copy, Debug, PartialEq, Eq)]
-pub struct Word<'a> {
-    pub place: usize,
-    pub bytes: &'a [u8],
-}
+pub type Word<'a> = Placed<'a>;
 
 /// What a token stands for: a literal with its value (a text without its quotes), a bare name, a path's first name and its steps as written, the two bounds of a range, or a symbol.
 #[derive(Clone, Copy, Debug, PartialEq, Eq)]
@@ -32,7 +28,7 @@ pub struct NoToken {
 }
 
 /// Bytes, cut into tokens up to a place.
-#[derive(Clone, Copy)]
+#[derive(Clone, Copy, Debug, PartialEq, Eq)]
 pub struct Cursor<'a> {
     rest: Place<'a>,
 }

@@ -2,22 +2,23 @@
 
 use crate::words::Wrong;
 use cutter::pieces::{Cutter, Piece};
+use cutter::places::Placed;
 use cutter::state::Kind;
 use cutter::tokens::Cursor;
 use std::alloc::{AllocError, Global};
 use std::fmt::Write;
 
-fn push_part(
-    answer: &mut String,
-    what: &str,
-    place: usize,
-    bytes: &[u8],
-) -> Result<(), AllocError> {
+fn push_part(answer: &mut String, what: &str, part: Placed<'_>) -> Result<(), AllocError> {
+    let Placed { place, bytes } = part;
     write!(answer, "{what} {place} ")?;
     for b in bytes {
         answer.push(char::from(*b))?;
     }
     answer.push_str("; ")
+}
+
+fn nothing_at(place: usize) -> Placed<'static> {
+    Placed { place, bytes: b"" }
 }
 
 // Each piece with its place, and `end` or the place of a mark that is not closed.
@@ -26,16 +27,11 @@ pub(crate) fn cut(heap: Global, part: &[u8]) -> Result<String, Wrong> {
     let mut cutter = Cutter::new(part);
     for _ in 0..part.len() {
         match cutter.next() {
-            Ok(Some(Piece::Text(place, bytes))) => push_part(&mut answer, "text", place, bytes)?,
-            Ok(Some(Piece::Mark(kind, place, bytes))) => push_part(
-                &mut answer,
-                word_of(kind),
-                place,
-                bytes,
-            )?,
+            Ok(Some(Piece::Text(text))) => push_part(&mut answer, "text", text)?,
+            Ok(Some(Piece::Mark(kind, mark))) => push_part(&mut answer, word_of(kind), mark)?,
             Ok(None) => break,
             Err(e) => {
-                push_part(&mut answer, "unclosed", e.place, b"")?;
+                push_part(&mut answer, "unclosed", nothing_at(e.place))?;
                 break;
             }
         }
@@ -57,10 +53,10 @@ pub(crate) fn tokens(heap: Global, inside: &[u8]) -> Result<String, Wrong> {
     let mut cursor = Cursor::new(inside);
     for _ in 0..inside.len() {
         match cursor.next() {
-            Ok(Some(word)) => push_part(&mut answer, "token", word.place, word.bytes)?,
+            Ok(Some(word)) => push_part(&mut answer, "token", word)?,
             Ok(None) => break,
             Err(e) => {
-                push_part(&mut answer, "none", e.place, b"")?;
+                push_part(&mut answer, "none", nothing_at(e.place))?;
                 break;
             }
         }

@@ -13,6 +13,7 @@ use crate::reader::lists::part_in;
 use crate::refusals::{Refusal, Stop};
 use crate::words::{Special, special_of};
 use cutter::paths::{StepWord, Steps};
+use cutter::places::Placed;
 use cutter::tokens::{Token, Word};
 use nodes::exprs::{Expr, Head, Part, Row, Span, Step};
 
@@ -25,9 +26,9 @@ fn step_of(step: StepWord) -> Step
 {
     match step {
         StepWord::Index(n) => Step::Index(n),
-        StepWord::Key(place, key) => Step::Key(Part {
-            place,
-            len: key.len(),
+        StepWord::Key(key) => Step::Key(Part {
+            place: key.place,
+            len: key.bytes.len(),
         }),
     }
 }
@@ -46,15 +47,15 @@ impl<'a> Reader<'a> {
         }
     }
 
-    // The steps as written, the first at `at`, go into their table; what is refused has the place `place`.
-    fn push_steps(&mut self, place: usize, at: usize, steps: &'a [u8]) -> Result<Span, Stop>
-        requires lies { Lies self.old.source.now at steps.now }
-        ensures did { Stepped self.new (steps_of at steps.now) place result }
+    // The steps as written go into their table; what is refused has the place `place`.
+    fn push_steps(&mut self, place: usize, steps: Placed<'a>) -> Result<Span, Stop>
+        requires lies { Lies self.old.source.now steps.place steps.bytes.now }
+        ensures did { Stepped self.new (steps_of steps.entry.place steps.entry.bytes.now) place result }
         ensures grown { Grown self.old self.new }
         ensures same { under self.new ≡ under self.old }
     {
         let from = self.steps.len();
-        let mut walk = Steps::new(at, steps);
+        let mut walk = Steps::new(steps);
         while let Some(step) = walk.next() {
             if self.steps.len() - from == STEPS {
                 return Err(Stop::Refused(Refusal::Limit, place));
@@ -65,13 +66,13 @@ impl<'a> Reader<'a> {
         Ok(Span { from, count })
     }
 
-    // A path, judged at `place`: its first name, and its steps as written, the first at `at`.
-    fn path(&mut self, place: usize, name: Part, at: usize, steps: &'a [u8]) -> Result<Expr, Stop>
-        requires lies { Lies self.old.source.now at steps.now }
-        ensures says { Said result (a_path place (part_in self.old.source.now name) (steps_of at steps.now) (under self.old)) (Exprs (pool_of self.new)) (under self.new) }
+    // A path, judged at `place`: its first name, and its steps as written.
+    fn path(&mut self, place: usize, name: Part, steps: Placed<'a>) -> Result<Expr, Stop>
+        requires lies { Lies self.old.source.now steps.place steps.bytes.now }
+        ensures says { Said result (a_path place (part_in self.old.source.now name) (steps_of steps.entry.place steps.entry.bytes.now) (under self.old)) (Exprs (pool_of self.new)) (under self.new) }
         ensures grown { Grown self.old self.new }
     {
-        let steps = self.push_steps(place, at, steps)?;
+        let steps = self.push_steps(place, steps)?;
         let head = self.head(place, name)?;
         Ok(Expr::Path(head, steps))
     }
@@ -114,8 +115,10 @@ impl<'a> Reader<'a> {
                     place: at,
                     len: n.len(),
                 },
-                at + n.len(),
-                steps,
+                Placed {
+                    place: at + n.len(),
+                    bytes: steps,
+                },
             ),
             Token::Range(_, _) | Token::Symbol(_) => Err(Stop::Refused(Refusal::Argument, place)),
         }

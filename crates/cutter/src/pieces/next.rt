@@ -4,7 +4,7 @@ ghost use Rattle.cutter.specs.Left.{left, Gave};
 ghost use Rattle.cutter.specs.Laws.{RightCut, OnlyCut, Joins, TidyPieces, RightCutAt, OnlyCutAt, JoinsAt, TidyPiecesAt};
 
 use crate::pieces::{Cutter, Piece, Unclosed};
-use crate::places::Place;
+use crate::places::{Place, Placed};
 use crate::state::{Event, State};
 
 impl<'a> Cutter<'a> {
@@ -51,12 +51,21 @@ impl<'a> Cutter<'a> {
                 Event::Opens => {
                     self.start = at - 1;
                     if start < at - 1 {
-                        return Ok(Some(Piece::Text(start, &src[start..at - 1])));
+                        return Ok(Some(Piece::Text(Placed {
+                            place: start,
+                            bytes: &src[start..at - 1],
+                        })));
                     }
                 }
                 Event::Closes(kind) => {
                     self.start = at + 1;
-                    return Ok(Some(Piece::Mark(kind, start, &src[start + 2..at - 1])));
+                    return Ok(Some(Piece::Mark(
+                        kind,
+                        Placed {
+                            place: start,
+                            bytes: &src[start + 2..at - 1],
+                        },
+                    )));
                 }
             }
         }
@@ -66,7 +75,10 @@ impl<'a> Cutter<'a> {
             State::Text | State::Brace if start < at => {
                 self.start = at;
                 self.state = State::Text;
-                Ok(Some(Piece::Text(start, &src[start..at])))
+                Ok(Some(Piece::Text(Placed {
+                    place: start,
+                    bytes: &src[start..at],
+                })))
             }
             State::Text | State::Brace => Ok(None),
             _ => Err(Unclosed { place: start }),

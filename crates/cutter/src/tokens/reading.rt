@@ -1,21 +1,14 @@
 // What a token as written stands for.
-ghost use Rattle.std.specs.Prelude.{◌≡◌, ◌+◌, ◌^◌, ◌<◌, ◌≤◌, length, nat_lt};
+ghost use Rattle.std.specs.Prelude.{◌≡◌, ◌+◌, ◌≤◌, length};
 ghost use Rattle.numerals.specs.Decimal.{whole_of};
 ghost use Rattle.std.specs.Str.{bytes_eq};
 ghost use Rattle.cutter.specs.Lengths.{name_length};
 ghost use Rattle.cutter.specs.Tokens.{inner, word_of, name_of, bound_from, bound_of, second, range_of, plain_of, token_of, reading, ReadsParts};
 
 use crate::lengths::{Class, Symbol, symbol_of};
-use crate::places::Place;
+use crate::places::{Anchored, Place};
 use crate::tokens::{Token, Word};
 use numerals::read_whole;
-
-// Whether all these bytes, the first at `place`, have places of 64 bits.
-pub(crate) fn fits(place: usize, bytes: &[u8]) -> bool
-    ensures { result ≡ nat_lt (place + length bytes.now) (2 ^ 64) }
-{
-    place.checked_add(bytes.len()).is_some()
-}
 
 // All but the first byte and the last.
 pub(crate) fn inner(bytes: &[u8]) -> &[u8]
@@ -51,34 +44,37 @@ fn name_of(bytes: &[u8]) -> Token<'_>
     }
 }
 
-// The value of the bound that begins at a place of a range at `place`.
-fn bound<'a>(place: usize, start: Place<'a>) -> Word<'a>
-    requires { place + length start.src.now < 2 ^ 64 }
-    ensures place { result.place ≡ place + bound_from start.entry.src.now start.entry.at }
-    ensures bytes { result.bytes.now ≡ bound_of start.entry.src.now start.entry.at }
+// The value of the bound that begins there.
+fn bound<'a>(start: Anchored<'a>) -> Word<'a>
+    ensures place { result.place ≡ start.entry.base + bound_from start.entry.here.src.now start.entry.here.at }
+    ensures bytes { result.bytes.now ≡ bound_of start.entry.here.src.now start.entry.here.at }
 {
-    let from = start.run(Class::Blank);
+    let from = start.here.run(Class::Blank);
     let to = from.value().unwrap_or(from);
     Word {
-        place: place + from.at,
+        place: start.base + from.at,
         bytes: &from.src[from.at..to.at],
     }
 }
 
-fn range_of(place: usize, bytes: &[u8]) -> Token<'_>
-    requires { 1 ≤ length bytes.now }
-    ensures { reading result ≡ range_of place bytes.now }
+fn range_of(word: Word<'_>) -> Token<'_>
+    requires { 1 ≤ length word.bytes.now }
+    ensures { reading result ≡ range_of word.entry.place word.entry.bytes.now }
 {
-    if !fits(place, bytes) {
+    let Some(Anchored { base, .. }) = Anchored::new(word) else {
         return Token::Nil;
-    }
+    };
+    let bytes = word.bytes;
     let first = Place { src: bytes, at: 1 };
     let dots = first.bound().unwrap_or(first);
     let second = Place {
         src: bytes,
         at: bytes.len().min(dots.at + 2),
     };
-    Token::Range(bound(place, first), bound(place, second))
+    Token::Range(
+        bound(Anchored { base, here: first }),
+        bound(Anchored { base, here: second }),
+    )
 }
 
 fn plain_of<'a>(number: Option<i64>, symbol: Option<Symbol>) -> Token<'a>
@@ -107,7 +103,7 @@ impl<'a> Word<'a> {
             return Token::Text(inner(bytes));
         }
         if start.stands(Class::Is(b'(')) {
-            return range_of(self.place, bytes);
+            return range_of(self);
         }
         plain_of(read_whole(bytes), symbol_of(bytes))
     }
