@@ -4,7 +4,7 @@ use Rattle.std.proofs.lemmas.List.{append_assoc, length-append}
 use Rattle.cutter.specs.declared.state.Kind.{Kind}
 use Rattle.cutter.specs.declared.state.Kind.TheVariants.{Tag, Output}
 use Rattle.cutter.specs.Cuts.{Cut, done, unclosed, text, mark, opening, closing, Opens, Closes, IsText, IsMark, Cuts}
-use Rattle.cutter.specs.Laws.{RightCut, OnlyCut, RightCutAt, OnlyCutAt, Whole, written, Joins, JoinsAt, Tidy, TidyPieces, TidyPiecesAt}
+use Rattle.cutter.specs.Laws.{RightCutAt, OnlyCutAt, Whole, written, JoinsAt, Tidy, TidyPiecesAt}
 use Rattle.cutter.specs.Scan.{cut_at}
 use Rattle.cutter.proofs.Only as unique
 use Rattle.cutter.proofs.Right as scanned
@@ -12,14 +12,8 @@ use Rattle.cutter.proofs.Right as scanned
 pub right_cut_at : RightCutAt
 right_cut_at = scanned.right_cut_at
 
-pub right_cut : RightCut
-right_cut part = right_cut_at 0 part
-
 pub only_cut_at : OnlyCutAt
 only_cut_at at part w c = unique.only w (cut_at at part) at part c (right_cut_at at part)
-
-pub only_cut : OnlyCut
-only_cut part = only_cut_at 0 part
 
 join : (w : Cut) (at : ℕ) (p : List ℕ) → Cuts at p w → Whole w → written w ≡ p
 join done at p c h = sym c
@@ -29,9 +23,6 @@ join (mark k x i w) at p c h = ap (λ l. opening k ++ (i ++ (closing k ++ l))) (
 
 pub joins_at : JoinsAt
 joins_at at part h = join (cut_at at part) at part (right_cut_at at part) h
-
-pub joins : Joins
-joins part = joins_at 0 part
 
 opens_long : (k : Kind) (b c : List ℕ) → b ≡ opening k ++ c → 2 ≤ length b
 opens_long Tag b c e = omega (arith, ap length e)
@@ -64,6 +55,3 @@ tidied (mark k x i w) at p c = (none_in_mark c.1.1, tidied w _ _ c.1.2)
 
 pub tidy_pieces_at : TidyPiecesAt
 tidy_pieces_at at part = tidied (cut_at at part) at part (right_cut_at at part)
-
-pub tidy_pieces : TidyPieces
-tidy_pieces part = tidy_pieces_at 0 part

@@ -32,14 +32,6 @@ lay_more {from} {a} {old} {mid} {end} x l {b} {new} {last} y =
     group : (take from old ++ a) ++ (b ++ drop last old) ≡ take from old ++ ((a ++ b) ++ drop last old)
     group = append_assoc (take from old) a (b ++ drop last old) ∙ ap (λ t. take from old ++ t) (sym (append_assoc a b (drop last old)))
 
--- a text laid at the front of `out[from..]` is laid from that place on
-pub lay_part : (from : ℕ) (bytes old part : List ℕ) (n : ℕ) → Laid bytes (take (length old - from) (drop from old)) part n → LaidAt from bytes old (put_mid from (length old - from) old part) (from + n)
-lay_part from bytes old part n x =
-    record { long = omega (arith, x.long); holds = ap (λ t. take from old ++ t) (ap (λ t. part ++ t) rest ∙ append-nil part ∙ x.holds ∙ ap (λ t. bytes ++ t) behind) }
-  where
-    rest : drop (length old - from) (drop from old) ≡ []
-    rest = drop_all (length old - from) (drop from old) (omega (arith, length-drop from old))
-
     behind : drop n (take (length old - from) (drop from old)) ≡ drop (from + n) old
     behind = ap (drop n) (take_rest old from) ∙ drop-drop n from old
 
