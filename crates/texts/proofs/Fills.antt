@@ -1,9 +1,8 @@
 -- Texts laid one behind another, and loops that lay what an array or an object holds.
-use Rattle.std.proofs.Common.{◌≡◌, ℕ, ◌+◌, ◌-◌, ◌<◌, ◌≤◌, List, [], ◌++◌, length, take, drop, sym, ap, ◌∙◌, subst, arith}
-use Rattle.std.proofs.lemmas.List.{append_assoc, append-nil, length-append, length-drop, length-take-le, take_at, drop_at, drop-drop, drop_all, take_rest}
-use borrow.Rule.Slice.PartMut.{put_mid}
+use Rattle.std.proofs.Common.{◌≡◌, ℕ, ◌+◌, ◌-◌, ◌<◌, ◌≤◌, List, ◌++◌, length, take, drop, sym, ap, ◌∙◌, subst, arith}
+use Rattle.std.proofs.lemmas.List.{append_assoc, append-nil, length-append, length-take-le, take_at, drop_at, drop-drop}
 use Rattle.values.specs.Value.{Value, written}
-use Rattle.texts.specs.Written.{Laid, LaidAt}
+use Rattle.texts.specs.Written.{LaidAt}
 use Rattle.texts.proofs.LeafTexts.{written_all, all_more, all_done}
 
 -- one text, and another behind it
@@ -31,9 +30,6 @@ lay_more {from} {a} {old} {mid} {end} x l {b} {new} {last} y =
 
     group : (take from old ++ a) ++ (b ++ drop last old) ≡ take from old ++ ((a ++ b) ++ drop last old)
     group = append_assoc (take from old) a (b ++ drop last old) ∙ ap (λ t. take from old ++ t) (sym (append_assoc a b (drop last old)))
-
-    behind : drop n (take (length old - from) (drop from old)) ≡ drop (from + n) old
-    behind = ap (drop n) (take_rest old from) ∙ drop-drop n from old
 
 -- the same text by another name
 pub lay_as : {from : ℕ} {a old new : List ℕ} {end : ℕ} → LaidAt from a old new end → (b : List ℕ) → b ≡ a → LaidAt from b old new end
