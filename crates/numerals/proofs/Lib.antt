@@ -1,3 +1,4 @@
 pub mod Texts
 pub mod Lawful
 pub mod Readings
+pub mod Bounded
