@@ -5,7 +5,7 @@ use Rattle.std.proofs.lemmas.Bool.{and_from, cases_lt}
 use Rattle.cutter.specs.Left.{slice}
 use Rattle.cutter.specs.Lengths.{is_blank, run, run_at, token_length}
 use Rattle.cutter.specs.declared.lengths.Class.TheVariants.{Blank}
-use Rattle.cutter.specs.Words.{Words, over, words_from, all_blank, Fills, TokensFillFrom}
+use Rattle.cutter.specs.Words.{Words, over, words_from, all_blank, Fills, TokensFill, TokensFillFrom}
 use Rattle.cutter.proofs.Filled.{ends, over_there, no_token, token}
 use Rattle.cutter.proofs.Parts.{run_short}
 
@@ -74,3 +74,7 @@ module _ (src : List ℕ) where
 
 pub tokens_fill_from : TokensFillFrom
 tokens_fill_from src at = fills src (length src) at (omega arith)
+
+-- the laws at place 0
+pub tokens_fill : TokensFill
+tokens_fill inside = tokens_fill_from inside 0

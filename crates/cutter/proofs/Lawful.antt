@@ -4,7 +4,7 @@ use Rattle.std.proofs.lemmas.List.{append_assoc, length-append}
 use Rattle.cutter.specs.declared.state.Kind.{Kind}
 use Rattle.cutter.specs.declared.state.Kind.TheVariants.{Tag, Output}
 use Rattle.cutter.specs.Cuts.{Cut, done, unclosed, text, mark, opening, closing, Opens, Closes, IsText, IsMark, Cuts}
-use Rattle.cutter.specs.Laws.{RightCutAt, OnlyCutAt, Whole, written, JoinsAt, Tidy, TidyPiecesAt}
+use Rattle.cutter.specs.Laws.{RightCut, OnlyCut, RightCutAt, OnlyCutAt, Whole, written, Joins, JoinsAt, Tidy, TidyPieces, TidyPiecesAt}
 use Rattle.cutter.specs.Scan.{cut_at}
 use Rattle.cutter.proofs.Only as unique
 use Rattle.cutter.proofs.Right as scanned
@@ -55,3 +55,16 @@ tidied (mark k x i w) at p c = (none_in_mark c.1.1, tidied w _ _ c.1.2)
 
 pub tidy_pieces_at : TidyPiecesAt
 tidy_pieces_at at part = tidied (cut_at at part) at part (right_cut_at at part)
+
+-- the laws at place 0
+pub right_cut : RightCut
+right_cut part = right_cut_at 0 part
+
+pub only_cut : OnlyCut
+only_cut part = only_cut_at 0 part
+
+pub joins : Joins
+joins part = joins_at 0 part
+
+pub tidy_pieces : TidyPieces
+tidy_pieces part = tidy_pieces_at 0 part
