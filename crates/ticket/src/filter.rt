@@ -75,9 +75,6 @@ fn answer<B: Bank>(
     buffer: &mut [u8; 256],
 ) -> Result<Answer, Cause> {
     let input = operand(&filtering.input)?;
-    let argument = match &filtering.argument {
-        Some(json) => Some(operand(json)?),
-        None => None,
-    };
+    let argument = filtering.argument.as_ref().map(operand).transpose()?;
     bank.apply(filtering.name.as_slice(), input, argument, buffer)
 }

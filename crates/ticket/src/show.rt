@@ -48,10 +48,10 @@ fn entry_line(heap: Global, tray: &Tray, key: usize, value: usize) -> Result<Vec
 fn value_text(heap: Global, tray: &Tray, i: usize) -> Result<Vec<u8>, AllocError>
     ensures { IfOk result (λ v. v.items ≡ written (value_of tray.now i)) }
 {
+    // No memory holds a text of more than `usize::MAX` bytes, which no allocation was asked for.
     let len = text_len(tray, i, usize::MAX).ok_or(AllocError)?;
-    let mut text = Vec::new(heap);
-    text.resize(len, 0)?;
-    write_text(tray, i, text.as_mut_slice()).ok_or(AllocError)?;
+    let mut text = vec![in heap; 0; len]?;
+    write_text(tray, i, text.as_mut_slice()).unwrap();
     Ok(text)
 }
 
