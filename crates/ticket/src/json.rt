@@ -1,5 +1,5 @@
 //! A JSON text of nil, booleans, whole numbers, texts, arrays and objects, read into a flat list of nodes.
-// A reader of its own and not the crate `serde_json`, whose faults have other words: here each is printed with its own words and its place.
+// A reader of its own, and not the crate `serde_json`: each fault is printed with its own words and its place.
 
 use crate::cursor::Cursor;
 use crate::json::errors::{Fault, JsonError};
