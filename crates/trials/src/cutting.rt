@@ -1,47 +1,72 @@
 //! Templates cut into pieces, and insides into tokens.
 
+use crate::calls::push_bytes;
 use crate::words::Wrong;
 use cutter::pieces::{Cutter, Piece};
 use cutter::state::Kind;
-use cutter::tokens::Cursor;
+use cutter::tokens::{Cursor, Word};
 use std::alloc::{AllocError, Global};
 use std::fmt::Write;
 
-fn push_part(
-    answer: &mut String,
-    what: &str,
+// A part of what is cut: what it is, its place and its bytes.
+#[derive(Clone, Copy, Debug, PartialEq, Eq)]
+struct Part<'a> {
+    what: &'a str,
     place: usize,
-    bytes: &[u8],
-) -> Result<(), AllocError> {
-    write!(answer, "{what} {place} ")?;
-    for b in bytes {
-        answer.push(char::from(*b))?;
-    }
+    bytes: &'a [u8],
+}
+
+fn push_part(answer: &mut String, part: Part<'_>) -> Result<(), AllocError> {
+    write!(answer, "{} {} ", part.what, part.place)?;
+    push_bytes(answer, part.bytes)?;
     answer.push_str("; ")
 }
 
-// Each piece with its place, and `end` or the place of a mark that is not closed.
-pub(crate) fn cut(heap: Global, part: &[u8]) -> Result<String, Wrong> {
+// The parts of `bytes` that `next` gives one after another, and `end`; an `Err` is the last part.
+fn listed<'a, F: FnMut() -> Result<Option<Part<'a>>, Part<'a>>>(
+    heap: Global,
+    bytes: &'a [u8],
+    mut next: F,
+) -> Result<String, Wrong>
+    requires { F.IsAlwaysCallable next }
+{
     let mut answer = String::new(heap);
-    let mut cutter = Cutter::new(part);
-    for _ in 0..part.len() {
-        match cutter.next() {
-            Ok(Some(Piece::Text(place, bytes))) => push_part(&mut answer, "text", place, bytes)?,
-            Ok(Some(Piece::Mark(kind, place, bytes))) => push_part(
-                &mut answer,
-                word_of(kind),
-                place,
-                bytes,
-            )?,
+    for _ in 0..bytes.len() {
+        match next() {
+            Ok(Some(part)) => push_part(&mut answer, part)?,
             Ok(None) => break,
-            Err(e) => {
-                push_part(&mut answer, "unclosed", e.place, b"")?;
+            Err(last) => {
+                push_part(&mut answer, last)?;
                 break;
             }
         }
     }
     answer.push_str("end")?;
     Ok(answer)
+}
+
+// A place where nothing is cut.
+fn refused<'a>(what: &'a str, place: usize) -> Part<'a> {
+    Part {
+        what,
+        place,
+        bytes: b"",
+    }
+}
+
+fn of_piece<'a>(piece: Piece<'a>) -> Part<'a> {
+    match piece {
+        Piece::Text(place, bytes) => Part {
+            what: "text",
+            place,
+            bytes,
+        },
+        Piece::Mark(kind, place, bytes) => Part {
+            what: word_of(kind),
+            place,
+            bytes,
+        },
+    }
 }
 
 fn word_of(kind: Kind) -> &'static str {
@@ -51,20 +76,28 @@ fn word_of(kind: Kind) -> &'static str {
     }
 }
 
+fn of_word<'a>(word: Word<'a>) -> Part<'a> {
+    Part {
+        what: "token",
+        place: word.place,
+        bytes: word.bytes,
+    }
+}
+
+// Each piece with its place, and `end` or the place of a mark that is not closed.
+pub(crate) fn cut(heap: Global, part: &[u8]) -> Result<String, Wrong> {
+    let mut cutter = Cutter::new(part);
+    listed(heap, part, || match cutter.next() {
+        Ok(piece) => Ok(piece.map(of_piece)),
+        Err(e) => Err(refused("unclosed", e.place)),
+    })
+}
+
 // Each token with its place, and `end` or the place where there is none.
 pub(crate) fn tokens(heap: Global, inside: &[u8]) -> Result<String, Wrong> {
-    let mut answer = String::new(heap);
     let mut cursor = Cursor::new(inside);
-    for _ in 0..inside.len() {
-        match cursor.next() {
-            Ok(Some(word)) => push_part(&mut answer, "token", word.place, word.bytes)?,
-            Ok(None) => break,
-            Err(e) => {
-                push_part(&mut answer, "none", e.place, b"")?;
-                break;
-            }
-        }
-    }
-    answer.push_str("end")?;
-    Ok(answer)
+    listed(heap, inside, || match cursor.next() {
+        Ok(word) => Ok(word.map(of_word)),
+        Err(e) => Err(refused("none", e.place)),
+    })
 }
