@@ -7,6 +7,7 @@ ghost use Rattle.std.specs.Prelude.{◌≡◌, ◌+◌, ◌-◌, ◌≤◌, leng
 pub(crate) struct Cursor<'a> {
     rest: &'a [u8],
     whole: usize,
+    ghost within: { length rest.now ≤ whole },
 }
 
 impl<'a> Cursor<'a> {
@@ -19,7 +20,7 @@ impl<'a> Cursor<'a> {
 
     // How many bytes were taken.
     pub(crate) fn at(&self) -> usize {
-        self.whole.saturating_sub(self.rest.len())
+        self.whole - self.rest.len()
     }
 
     pub(crate) fn rest(&self) -> &'a [u8]

@@ -1,5 +1,7 @@
 //! A filter of the banks of sums and phrases, side by side.
 
+ghost use Rattle.ticket.specs.Bounds.{FitsAnswer};
+
 use crate::job::{Filtering, TrayParts};
 use crate::json::tree::{Json, Kind};
 use crate::quote::push_quoted;
@@ -57,7 +59,7 @@ fn answer_line<B: Bank>(
         }
         Ok(Answer::Text(n)) => {
             line.extend_from_slice(b" ok ")?;
-            push_quoted(&mut line, buffer.get(0..n).unwrap_or(&[]))?;
+            push_quoted(&mut line, &buffer[0..n])?;
             line.push(b'\n')?;
         }
         Err(cause) => {
@@ -73,11 +75,10 @@ fn answer<B: Bank>(
     bank: &mut B,
     filtering: &Filtering,
     buffer: &mut [u8; 256],
-) -> Result<Answer, Cause> {
+) -> Result<Answer, Cause>
+    ensures { FitsAnswer result }
+{
     let input = operand(&filtering.input)?;
-    let argument = match &filtering.argument {
-        Some(json) => Some(operand(json)?),
-        None => None,
-    };
+    let argument = filtering.argument.as_ref().map(operand).transpose()?;
     bank.apply(filtering.name.as_slice(), input, argument, buffer)
 }

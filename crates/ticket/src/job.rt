@@ -6,9 +6,9 @@ use crate::json::errors::{Fault, JsonError};
 use crate::json::tree::Json;
 use crate::layout::{LayoutError, Unsaid, lay_out};
 use crate::spelling::spell_all;
-use std::alloc::{AllocError, AllocFailed, Global};
-use std::error::Error;
-use std::{fmt, fs};
+use std::alloc::{AllocError, Global};
+use std::fs;
+use thiserror::Error;
 use tray::records::OpenError;
 use tray::trays::Tray;
 
@@ -64,48 +64,38 @@ pub(crate) struct Filtering {
 }
 
 // Why a line is no action.
-#[derive(Clone, Copy, Debug)]
+#[derive(Clone, Copy, Debug, PartialEq, Eq, Error)]
 pub(crate) enum LineFault {
+    #[error("no such action")]
     UnknownWord,
+    #[error("a filter name is wanted here")]
     NoFilter,
+    #[error("a file name is wanted here")]
     NoFileName,
+    #[error("a file name is not UTF-8")]
     FileName,
+    #[error("this file cannot be read")]
     Unreadable,
+    #[error("something is left over")]
     LeftOver,
+    #[error(transparent)]
     Json(Fault),
 }
 
-impl fmt::Display for LineFault {
-    fn fmt<W: fmt::Write>(&self, f: &mut fmt::Formatter<W>) -> fmt::Result {
-        match self {
-            LineFault::UnknownWord => f.write_str("no such action"),
-            LineFault::NoFilter => f.write_str("a filter name is wanted here"),
-            LineFault::NoFileName => f.write_str("a file name is wanted here"),
-            LineFault::FileName => f.write_str("a file name is not UTF-8"),
-            LineFault::Unreadable => f.write_str("this file cannot be read"),
-            LineFault::LeftOver => f.write_str("something is left over"),
-            LineFault::Json(fault) => fault.fmt(f),
-        }
-    }
-}
-
 // A fault, with its place in the line from 0; or want of memory.
-#[derive(Clone, Copy)]
+#[derive(Clone, Copy, Debug, PartialEq, Eq, Error)]
 pub(crate) enum LineError {
-    Memory,
+    #[error("no memory")]
+    Memory(#[from(alloc)] AllocError),
+    #[error("byte {0}: {1}")]
     Bad(usize, LineFault),
 }
 
-impl From<AllocError> for LineError {
-    fn from(_e: AllocError) -> LineError {
-        LineError::Memory
-    }
-}
-
+// By hand: the derive's `From` would keep the whole error in a variant, and this one keeps its place and its fault.
 impl From<JsonError> for LineError {
     fn from(e: JsonError) -> LineError {
         match e {
-            JsonError::Memory => LineError::Memory,
+            JsonError::Memory(e) => LineError::Memory(e),
             JsonError::Bad(at, fault) => LineError::Bad(at, LineFault::Json(fault)),
         }
     }
@@ -115,7 +105,7 @@ impl LineError {
     // The same in the line with this number, from 0.
     fn in_line(self, line: usize) -> JobError {
         match self {
-            LineError::Memory => JobError::Memory,
+            LineError::Memory(e) => JobError::Memory(e),
             LineError::Bad(at, fault) => JobError::Bad {
                 line: line.saturating_add(1),
                 column: at.saturating_add(1),
@@ -126,36 +116,17 @@ impl LineError {
 }
 
 // Where a job stops: its line and the place in it, both from 1; or want of memory.
-#[derive(Clone, Copy, Debug)]
+#[derive(Clone, Copy, Debug, PartialEq, Eq, Error)]
 pub(crate) enum JobError {
-    Memory,
+    #[error("no memory")]
+    Memory(#[from(alloc)] AllocError),
+    #[error("line {line}, column {column}: {fault}")]
     Bad {
         line: usize,
         column: usize,
         fault: LineFault,
     },
 }
-
-impl<T: Drop> From<AllocFailed<T>> for JobError {
-    fn from(_e: AllocFailed<T>) -> JobError {
-        JobError::Memory
-    }
-}
-
-impl fmt::Display for JobError {
-    fn fmt<W: fmt::Write>(&self, f: &mut fmt::Formatter<W>) -> fmt::Result {
-        match self {
-            JobError::Memory => write!(f, "no memory"),
-            JobError::Bad {
-                line,
-                column,
-                fault,
-            } => write!(f, "line {line}, column {column}: {fault}"),
-        }
-    }
-}
-
-impl Error for JobError {}
 
 // Reads the actions of `job` into `actions`, up to the first line that is none.
 pub(crate) fn read_job(
@@ -193,6 +164,19 @@ fn read_line(rt: &HostRuntime, line: &[u8]) -> Result<Option<Action>, LineError>
     Ok(Some(action))
 }
 
+// The next word and its place; a fault where the line ends before one.
+fn next_word<'a>(
+    cursor: &mut Cursor<'a>,
+    missing: LineFault,
+) -> Result<(usize, &'a [u8]), LineError> {
+    cursor.skip_blanks();
+    let at = cursor.at();
+    match cursor.word() {
+        [] => Err(LineError::Bad(at, missing)),
+        word => Ok((at, word)),
+    }
+}
+
 fn end_line(mut cursor: Cursor<'_>) -> Result<(), LineError> {
     cursor.skip_blanks();
     match cursor.peek() {
@@ -216,24 +200,19 @@ fn read_object<F: FnOnce(TrayBytes) -> Action>(
             text: host.texts,
         })),
         Err(LayoutError::Unsaid(what)) => Ok(Action::NotLaidOut(what)),
-        Err(LayoutError::Memory) => Err(LineError::Memory),
+        Err(LayoutError::Memory(e)) => Err(LineError::Memory(e)),
     }
 }
 
 fn read_filter(heap: Global, mut cursor: Cursor<'_>) -> Result<Action, LineError> {
-    cursor.skip_blanks();
-    let at = cursor.at();
-    let word = cursor.word();
-    if word.is_empty() {
-        return Err(LineError::Bad(at, LineFault::NoFilter));
-    }
+    let (_, word) = next_word(&mut cursor, LineFault::NoFilter)?;
     let name = Vec::from_slice(heap, word)?;
     let input = json::read_value(heap, &mut cursor)?;
     cursor.skip_blanks();
-    let argument = match cursor.peek() {
-        Some(_) => Some(json::read_value(heap, &mut cursor)?),
-        None => None,
-    };
+    let argument = cursor
+        .peek()
+        .map(|_| json::read_value(heap, &mut cursor))
+        .transpose()?;
     end_line(cursor)?;
     Ok(Action::Filter(Filtering {
         name,
@@ -251,12 +230,7 @@ fn read_tray(rt: &HostRuntime, mut cursor: Cursor<'_>) -> Result<Action, LineErr
 
 // The bytes of the file that the next word names.
 fn read_file(rt: &HostRuntime, cursor: &mut Cursor<'_>) -> Result<Vec<u8>, LineError> {
-    cursor.skip_blanks();
-    let at = cursor.at();
-    let word = cursor.word();
-    if word.is_empty() {
-        return Err(LineError::Bad(at, LineFault::NoFileName));
-    }
+    let (at, word) = next_word(cursor, LineFault::NoFileName)?;
     let name = std::str::from_utf8(word).map_err(|_| LineError::Bad(at, LineFault::FileName))?;
     fs::read(rt, name).map_err(|_| LineError::Bad(at, LineFault::Unreadable))
 }

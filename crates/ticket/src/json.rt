@@ -1,4 +1,5 @@
 //! A JSON text of nil, booleans, whole numbers, texts, arrays and objects, read into a flat list of nodes.
+// A reader of its own, and not the crate `serde_json`: each fault is printed with its own words and its place.
 
 use crate::cursor::Cursor;
 use crate::json::errors::{Fault, JsonError};
@@ -29,7 +30,7 @@ pub(crate) fn read_value(heap: Global, cursor: &mut Cursor<'_>) -> Result<Json, 
     let mut texts = Vec::new(heap);
     let mut tree = Tree::new(heap);
     let mut want = Want::Value;
-    while !want.is_over() {
+    while want != Want::Over {
         cursor.skip_blanks();
         let at = cursor.at();
         let token = cursor.token(&mut texts)?;

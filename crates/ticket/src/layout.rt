@@ -1,40 +1,29 @@
 //! JSON laid out as the records of a tray, breadth first: the parts of a holder stand in one block behind it.
 
 use crate::json::tree::{Json, Kind, Node};
-use std::alloc::{AllocFailed, Global};
-use std::fmt;
+use std::alloc::{AllocError, Global};
+use thiserror::Error;
 use tray::records::{Record, Span};
 
 // What a record cannot say: each of its numbers has two bytes.
-#[derive(Clone, Copy)]
+#[derive(Clone, Copy, Debug, PartialEq, Eq, Error)]
 pub(crate) enum Unsaid {
+    #[error("a text begins past byte 65,535 of the tray text")]
     Place,
+    #[error("a text has more than 65,535 bytes")]
     Length,
+    #[error("the parts of an array or object begin past record 65,535")]
     First,
+    #[error("an array or object has more than 65,535 parts")]
     Count,
 }
 
-impl fmt::Display for Unsaid {
-    fn fmt<W: fmt::Write>(&self, f: &mut fmt::Formatter<W>) -> fmt::Result {
-        f.write_str(match self {
-            Unsaid::Place => "a text begins past byte 65,535 of the tray text",
-            Unsaid::Length => "a text has more than 65,535 bytes",
-            Unsaid::First => "the parts of an array or object begin past record 65,535",
-            Unsaid::Count => "an array or object has more than 65,535 parts",
-        })
-    }
-}
-
-#[derive(Clone, Copy)]
+#[derive(Clone, Copy, Debug, PartialEq, Eq, Error)]
 pub(crate) enum LayoutError {
-    Memory,
+    #[error("no memory")]
+    Memory(#[from(alloc)] AllocError),
+    #[error(transparent)]
     Unsaid(Unsaid),
-}
-
-impl<T: Drop> From<AllocFailed<T>> for LayoutError {
-    fn from(_e: AllocFailed<T>) -> LayoutError {
-        LayoutError::Memory
-    }
 }
 
 // The records of `json`, whose tray text is its texts.

@@ -47,10 +47,8 @@ fn open<'a>(rt: &HostRuntime, what: &str, bytes: TrayParts<'a>) -> io::Result<Op
         }
         Err(e) => {
             match e.number() {
-                Some(n) => println!(rt;
-                    "{what} refused {n}: a rule of the record format is broken, or a host name is reserved"
-                )?,
-                None => println!(rt; "{what} failed: no memory")?,
+                Some(n) => println!(rt; "{what} refused {n}: {e}")?,
+                None => println!(rt; "{what} failed: {e}")?,
             }
             Ok(None)
         }

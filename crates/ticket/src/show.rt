@@ -48,10 +48,10 @@ fn entry_line(heap: Global, tray: &Tray, key: usize, value: usize) -> Result<Vec
 fn value_text(heap: Global, tray: &Tray, i: usize) -> Result<Vec<u8>, AllocError>
     ensures { IfOk result (λ v. v.items ≡ written (value_of tray.now i)) }
 {
+    // A text of more than `usize::MAX` bytes fits in no memory: to the caller it is an allocation that failed.
     let len = text_len(tray, i, usize::MAX).ok_or(AllocError)?;
-    let mut text = Vec::new(heap);
-    text.resize(len, 0)?;
-    write_text(tray, i, text.as_mut_slice()).ok_or(AllocError)?;
+    let mut text = vec![in heap; 0; len]?;
+    write_text(tray, i, text.as_mut_slice()).unwrap();
     Ok(text)
 }
 
@@ -80,6 +80,7 @@ fn push_name(out: &mut Vec<u8>, text: &[u8]) -> Result<(), AllocError>
     }
 }
 
+// What is printed bare. The cutter's names have the same bytes, but are private there, and this program cuts no template.
 fn is_name(text: &[u8]) -> bool
     ensures { result ≡ is_name text.now }
 {

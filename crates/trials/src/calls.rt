@@ -6,7 +6,7 @@ use numerals::{read_whole, write_whole};
 use rows::numbers::Numbers;
 use rows::row::Row;
 use rows::window::Window;
-use std::alloc::Global;
+use std::alloc::{AllocError, Global};
 use std::fmt::{Display, Write};
 use std::str::SplitWhitespace;
 use tray::records::OpenError;
@@ -76,10 +76,16 @@ pub(crate) fn maybe<T: Display + Drop>(heap: Global, value: Option<T>) -> Result
 pub(crate) fn laid(heap: Global, end: Option<usize>, out: &[u8]) -> Result<String, Wrong> {
     let mut answer = maybe(heap, end)?;
     answer.push(' ')?;
-    for b in out {
+    push_bytes(&mut answer, out)?;
+    Ok(answer)
+}
+
+// Each byte as the character with its number.
+pub(crate) fn push_bytes(answer: &mut String, bytes: &[u8]) -> Result<(), AllocError> {
+    for b in bytes {
         answer.push(char::from(*b))?;
     }
-    Ok(answer)
+    Ok(())
 }
 
 fn write(heap: Global, words: &mut SplitWhitespace<'_>) -> Result<String, Wrong> {

@@ -1,43 +1,69 @@
 //! Templates cut into pieces, and insides into tokens.
 
+use crate::calls::push_bytes;
 use crate::words::Wrong;
 use cutter::pieces::{Cutter, Piece};
 use cutter::places::Placed;
 use cutter::state::Kind;
-use cutter::tokens::Cursor;
+use cutter::tokens::{Cursor, Word};
 use std::alloc::{AllocError, Global};
 use std::fmt::Write;
 
-fn push_part(answer: &mut String, what: &str, part: Placed<'_>) -> Result<(), AllocError> {
-    let Placed { place, bytes } = part;
-    write!(answer, "{what} {place} ")?;
-    for b in bytes {
-        answer.push(char::from(*b))?;
-    }
+// A part of what is cut, and what it is.
+#[derive(Clone, Copy, Debug, PartialEq, Eq)]
+struct Part<'a> {
+    what: &'a str,
+    placed: Placed<'a>,
+}
+
+fn push_part(answer: &mut String, part: Part<'_>) -> Result<(), AllocError> {
+    write!(answer, "{} {} ", part.what, part.placed.place)?;
+    push_bytes(answer, part.placed.bytes)?;
     answer.push_str("; ")
 }
 
-fn nothing_at(place: usize) -> Placed<'static> {
-    Placed { place, bytes: b"" }
-}
-
-// Each piece with its place, and `end` or the place of a mark that is not closed.
-pub(crate) fn cut(heap: Global, part: &[u8]) -> Result<String, Wrong> {
+// The parts of `bytes` that `next` gives one after another, and `end`; an `Err` is the last part.
+fn listed<'a, F: FnMut() -> Result<Option<Part<'a>>, Part<'a>>>(
+    heap: Global,
+    bytes: &'a [u8],
+    mut next: F,
+) -> Result<String, Wrong>
+    requires { F.IsAlwaysCallable next }
+{
     let mut answer = String::new(heap);
-    let mut cutter = Cutter::new(part);
-    for _ in 0..part.len() {
-        match cutter.next() {
-            Ok(Some(Piece::Text(text))) => push_part(&mut answer, "text", text)?,
-            Ok(Some(Piece::Mark(kind, mark))) => push_part(&mut answer, word_of(kind), mark)?,
+    for _ in 0..bytes.len() {
+        match next() {
+            Ok(Some(part)) => push_part(&mut answer, part)?,
             Ok(None) => break,
-            Err(e) => {
-                push_part(&mut answer, "unclosed", nothing_at(e.place))?;
+            Err(last) => {
+                push_part(&mut answer, last)?;
                 break;
             }
         }
     }
     answer.push_str("end")?;
     Ok(answer)
+}
+
+// A place where nothing is cut.
+fn refused<'a>(what: &'a str, place: usize) -> Part<'a> {
+    Part {
+        what,
+        placed: Placed { place, bytes: b"" },
+    }
+}
+
+fn of_piece<'a>(piece: Piece<'a>) -> Part<'a> {
+    match piece {
+        Piece::Text(placed) => Part {
+            what: "text",
+            placed,
+        },
+        Piece::Mark(kind, placed) => Part {
+            what: word_of(kind),
+            placed,
+        },
+    }
 }
 
 fn word_of(kind: Kind) -> &'static str {
@@ -47,20 +73,27 @@ fn word_of(kind: Kind) -> &'static str {
     }
 }
 
+fn of_word<'a>(word: Word<'a>) -> Part<'a> {
+    Part {
+        what: "token",
+        placed: word,
+    }
+}
+
+// Each piece with its place, and `end` or the place of a mark that is not closed.
+pub(crate) fn cut(heap: Global, part: &[u8]) -> Result<String, Wrong> {
+    let mut cutter = Cutter::new(part);
+    listed(heap, part, || match cutter.next() {
+        Ok(piece) => Ok(piece.map(of_piece)),
+        Err(e) => Err(refused("unclosed", e.place)),
+    })
+}
+
 // Each token with its place, and `end` or the place where there is none.
 pub(crate) fn tokens(heap: Global, inside: &[u8]) -> Result<String, Wrong> {
-    let mut answer = String::new(heap);
     let mut cursor = Cursor::new(inside);
-    for _ in 0..inside.len() {
-        match cursor.next() {
-            Ok(Some(word)) => push_part(&mut answer, "token", word)?,
-            Ok(None) => break,
-            Err(e) => {
-                push_part(&mut answer, "none", nothing_at(e.place))?;
-                break;
-            }
-        }
-    }
-    answer.push_str("end")?;
-    Ok(answer)
+    listed(heap, inside, || match cursor.next() {
+        Ok(word) => Ok(word.map(of_word)),
+        Err(e) => Err(refused("none", e.place)),
+    })
 }

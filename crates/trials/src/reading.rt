@@ -36,13 +36,8 @@ fn laid_text(heap: Global, tray: &Tray, record: usize, room: usize) -> Result<St
     laid(heap, end, out.as_slice())
 }
 
-fn number_step(n: i64) -> Step<'static> {
-    Step::Number(n)
-}
-
 fn index(tray: &Tray, record: usize, n: i64) -> Option<Found> {
-    let step = number_step(n);
-    follow(tray, record, step)
+    follow(tray, record, Step::Number(n))
 }
 
 fn named(tray: &Tray, record: usize, name: &[u8]) -> Option<Found> {
@@ -55,10 +50,9 @@ fn yes_or_no(heap: Global, answer: bool) -> Result<String, Wrong> {
 }
 
 fn came(heap: Global, found: Option<Found>) -> Result<String, Wrong> {
-    let words = match found {
-        Some(Found::Record(i)) => Some(format!(in heap; "record {i}")?),
-        Some(Found::Size(n)) => Some(format!(in heap; "size {n}")?),
-        None => None,
-    };
-    maybe(heap, words)
+    match found {
+        Some(Found::Record(i)) => Ok(format!(in heap; "record {i}")?),
+        Some(Found::Size(n)) => Ok(format!(in heap; "size {n}")?),
+        None => Ok(String::from_str(heap, "none")?),
+    }
 }

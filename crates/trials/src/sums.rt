@@ -42,10 +42,6 @@ fn operand<'a>(bytes: &'a [u8]) -> Operand<'a> {
     Short::new(bytes).map_or(Operand::Nil, Operand::Text)
 }
 
-fn given<'a>(operand: Operand<'a>) -> Option<Operand<'a>> {
-    Some(operand)
-}
-
 // sum NAME 'INPUT' 'ARGUMENT': how often the bank was asked, and its number or cause.
 pub(crate) fn sum(heap: Global, words: &mut SplitWhitespace<'_>) -> Result<String, Wrong> {
     let name = word(words)?.as_bytes();
@@ -60,7 +56,7 @@ pub(crate) fn sum(heap: Global, words: &mut SplitWhitespace<'_>) -> Result<Strin
         let asked = bank.asked;
         return Ok(format!(in heap; "{asked} unknown")?);
     }
-    let sum = bank.apply(name, operand(input), given(operand(argument)), &mut answer);
+    let sum = bank.apply(name, operand(input), Some(operand(argument)), &mut answer);
     let asked = bank.asked;
     match sum {
         Ok(Answer::Whole(n)) => Ok(format!(in heap; "{asked} {n}")?),

@@ -1,19 +1,20 @@
 //! The words of a case: numbers, texts between quotes, and bytes in hex.
 
-ghost use Rattle.std.specs.Prelude.{◌<◌, IfOk};
-
+use hex::FromHexError;
 use std::alloc::{AllocError, AllocFailed, Global};
-use std::error::Error;
-use std::fmt;
 use std::str::{FromStr, SplitWhitespace};
+use thiserror::Error;
 
 /// Why a case cannot be run.
-#[derive(Clone, Copy, Debug)]
+#[derive(Clone, Copy, Debug, PartialEq, Eq, Error)]
 pub enum Wrong {
+    #[error("no memory")]
     Memory,
+    #[error("a case that cannot be read")]
     Case,
 }
 
+// By hand: `#[from(alloc)]` keeps an `AllocError`, and `OpenError::Memory` and `FromHexError::OutOfMemory` have none.
 impl From<AllocError> for Wrong {
     fn from(_e: AllocError) -> Wrong {
         Wrong::Memory
@@ -26,16 +27,14 @@ impl<T: Drop> From<AllocFailed<T>> for Wrong {
     }
 }
 
-impl fmt::Display for Wrong {
-    fn fmt<W: fmt::Write>(&self, f: &mut fmt::Formatter<W>) -> fmt::Result {
-        match self {
-            Wrong::Memory => write!(f, "no memory"),
-            Wrong::Case => write!(f, "a case that cannot be read"),
+impl From<FromHexError> for Wrong {
+    fn from(e: FromHexError) -> Wrong {
+        match e {
+            FromHexError::OutOfMemory => Wrong::Memory,
+            _ => Wrong::Case,
         }
     }
 }
-
-impl Error for Wrong {}
 
 pub(crate) fn word<'a>(words: &mut SplitWhitespace<'a>) -> Result<&'a str, Wrong> {
     words.next().ok_or(Wrong::Case)
@@ -62,28 +61,11 @@ pub(crate) fn text<'a>(words: &mut SplitWhitespace<'a>) -> Result<&'a [u8], Wron
     }
 }
 
-fn nibble(b: u8) -> Result<u8, Wrong>
-    ensures { IfOk result (λ d. d < 16) }
-{
-    match b {
-        b'0'..=b'9' => Ok(b - b'0'),
-        b'a'..=b'f' => Ok(b - b'a' + 10),
-        _ => Err(Wrong::Case),
-    }
-}
-
-// The bytes that pairs of hex digits stand for, or `none`.
+// The bytes that pairs of hex digits in lower case stand for, or `none`. The crate `hex` takes upper case too.
 pub(crate) fn hex(heap: Global, words: &mut SplitWhitespace<'_>) -> Result<Vec<u8>, Wrong> {
-    let mut bytes = Vec::new(heap);
-    let digits = word(words)?;
-    if digits == "none" {
-        return Ok(bytes);
+    match word(words)? {
+        "none" => Ok(Vec::new(heap)),
+        digits if digits.bytes().any(|b| b.is_ascii_uppercase()) => Err(Wrong::Case),
+        digits => Ok(hex::decode(heap, digits)?),
     }
-    for pair in digits.as_bytes().chunks(2) {
-        let [a, b] = pair else {
-            return Err(Wrong::Case);
-        };
-        bytes.push(nibble(*a)? * 16 + nibble(*b)?)?;
-    }
-    Ok(bytes)
 }

@@ -1,68 +1,51 @@
 //! Why a text is not read as JSON.
 
-use std::alloc::{AllocError, AllocFailed};
-use std::fmt;
+use std::alloc::AllocError;
+use thiserror::Error;
 
-#[derive(Clone, Copy, Debug)]
+#[derive(Clone, Copy, Debug, PartialEq, Eq, Error)]
 pub(crate) enum Fault {
+    #[error("the JSON ends too soon")]
     Ended,
+    #[error("this is not JSON")]
     NotJson,
+    #[error("a value is wanted here")]
     NoValue,
+    #[error("a key in quotes is wanted here")]
     NoKey,
+    #[error("a colon is wanted here")]
     NoColon,
+    #[error("a comma or a closing bracket is wanted here")]
     NoComma,
+    #[error("the host data is not an object")]
     NotObject,
+    #[error("a digit is wanted here")]
     NoDigit,
+    #[error("a number begins with a 0 too many")]
     LeadingZero,
+    #[error("a number has a fraction or an exponent")]
     Fraction,
+    #[error("a number does not fit 64 signed bits")]
     Large,
+    #[error("a text is not closed")]
     OpenText,
+    #[error("a control byte stands in a text")]
     Control,
+    #[error("no such escape")]
     Escape,
+    #[error("a hexadecimal digit is wanted here")]
     Hex,
+    #[error("a surrogate stands alone")]
     Surrogate,
+    #[error("something is left over")]
     LeftOver,
 }
 
-impl fmt::Display for Fault {
-    fn fmt<W: fmt::Write>(&self, f: &mut fmt::Formatter<W>) -> fmt::Result {
-        f.write_str(match self {
-            Fault::Ended => "the JSON ends too soon",
-            Fault::NotJson => "this is not JSON",
-            Fault::NoValue => "a value is wanted here",
-            Fault::NoKey => "a key in quotes is wanted here",
-            Fault::NoColon => "a colon is wanted here",
-            Fault::NoComma => "a comma or a closing bracket is wanted here",
-            Fault::NotObject => "the host data is not an object",
-            Fault::NoDigit => "a digit is wanted here",
-            Fault::LeadingZero => "a number begins with a 0 too many",
-            Fault::Fraction => "a number has a fraction or an exponent",
-            Fault::Large => "a number does not fit 64 signed bits",
-            Fault::OpenText => "a text is not closed",
-            Fault::Control => "a control byte stands in a text",
-            Fault::Escape => "no such escape",
-            Fault::Hex => "a hexadecimal digit is wanted here",
-            Fault::Surrogate => "a surrogate stands alone",
-            Fault::LeftOver => "something is left over",
-        })
-    }
-}
-
 // A fault with its place, the number of bytes before it; or want of memory.
-#[derive(Clone, Copy)]
+#[derive(Clone, Copy, Debug, PartialEq, Eq, Error)]
 pub(crate) enum JsonError {
-    Memory,
+    #[error("no memory")]
+    Memory(#[from(alloc)] AllocError),
+    #[error("byte {0}: {1}")]
     Bad(usize, Fault),
-}
-
-impl From<AllocError> for JsonError {
-    fn from(_e: AllocError) -> JsonError {
-        JsonError::Memory
-    }
-}
-
-impl<T: Drop> From<AllocFailed<T>> for JsonError {
-    fn from(_e: AllocFailed<T>) -> JsonError {
-        JsonError::Memory
-    }
 }

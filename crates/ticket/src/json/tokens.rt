@@ -115,9 +115,7 @@ impl<'a> Cursor<'a> {
             0xd800..=0xdbff => 0x10000 + (first - 0xd800) * 0x400 + self.low_surrogate(at)?,
             _ => first,
         };
-        let Some(c) = char::from_u32(code) else {
-            return Err(JsonError::Bad(at, Fault::Surrogate));
-        };
+        let c = char::from_u32(code).ok_or(JsonError::Bad(at, Fault::Surrogate))?;
         let mut room = [0u8; 4];
         texts.extend_from_slice(c.encode_utf8(&mut room).as_bytes())?;
         Ok(())

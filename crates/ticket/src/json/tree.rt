@@ -4,14 +4,14 @@ use crate::json::errors::{Fault, JsonError};
 use std::alloc::Global;
 
 // A part of a buffer of texts.
-#[derive(Clone, Copy)]
+#[derive(Clone, Copy, Debug, PartialEq, Eq)]
 pub(crate) struct Part {
     pub(crate) place: usize,
     pub(crate) len: usize,
 }
 
 // A value. A text is a part of a side buffer. A holder tells its number of items or entries.
-#[derive(Clone, Copy)]
+#[derive(Clone, Copy, Debug, PartialEq, Eq)]
 pub(crate) enum Kind {
     Nil,
     Flag(bool),
@@ -22,7 +22,7 @@ pub(crate) enum Kind {
 }
 
 // A value, and the number of the first node behind it and all that it holds.
-#[derive(Clone, Copy)]
+#[derive(Clone, Copy, Debug, PartialEq, Eq)]
 pub(crate) struct Node {
     pub(crate) kind: Kind,
     pub(crate) next: usize,
@@ -48,7 +48,7 @@ impl Json {
     }
 }
 
-#[derive(Clone, Copy, PartialEq, Eq)]
+#[derive(Clone, Copy, Debug, PartialEq, Eq)]
 pub(crate) enum Holder {
     Array,
     Object,
@@ -80,7 +80,7 @@ impl Holder {
     }
 }
 
-#[derive(Clone, Copy)]
+#[derive(Clone, Copy, Debug, PartialEq, Eq)]
 pub(crate) enum Token {
     Open(Holder),
     Close(Holder),
@@ -90,7 +90,7 @@ pub(crate) enum Token {
 }
 
 // What may come next.
-#[derive(Clone, Copy)]
+#[derive(Clone, Copy, Debug, PartialEq, Eq)]
 pub(crate) enum Want {
     Value,
     ItemOrEnd,
@@ -102,10 +102,6 @@ pub(crate) enum Want {
 }
 
 impl Want {
-    pub(crate) fn is_over(self) -> bool {
-        matches!(self, Want::Over)
-    }
-
     // What is amiss where another token comes.
     fn fault(self) -> Fault {
         match self {
@@ -119,7 +115,7 @@ impl Want {
 }
 
 // An array or object that is not closed yet: its node, and how many items or entries it has so far.
-#[derive(Clone, Copy)]
+#[derive(Clone, Copy, Debug, PartialEq, Eq)]
 struct Open {
     node: usize,
     holder: Holder,
@@ -178,7 +174,7 @@ impl Tree {
     }
 
     fn begin(&mut self, holder: Holder) -> Result<Want, JsonError> {
-        let node = self.push(Kind::Nil)?;
+        let node = self.push(holder.of(0))?;
         self.open.push(Open {
             node,
             holder,
