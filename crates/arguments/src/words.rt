@@ -3,6 +3,7 @@ ghost use Rattle.std.specs.Prelude.{◌≡◌};
 ghost use Rattle.arguments.specs.Values.{special};
 
 /// What the first name of a path is: a loop object, a word that heads no path (`empty`, `blank`), or any other name.
+// Four cases and no Option: any other name is one of the things that a path may begin with.
 #[derive(Clone, Copy, Debug, PartialEq, Eq)]
 pub enum Special {
     Forloop,

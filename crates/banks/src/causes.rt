@@ -26,6 +26,7 @@ impl Cause {
     }
 }
 
+// By hand and no derive, since a clause says what it writes.
 impl fmt::Display for Cause {
     ghost output = { λ c. Some (words_of c) };
 

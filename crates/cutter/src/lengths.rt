@@ -76,6 +76,7 @@ impl<'a> Place<'a> {
     fn one(self, class: Class) -> Option<Self>
         ensures { Behind (one class) self.entry result }
     {
+        // `then` was tried: the fact of the place that its closure makes did not close.
         if self.stands(class) {
             Some(Place {
                 src: self.src,
@@ -138,7 +139,7 @@ impl<'a> Place<'a> {
         self.one(Class::Quote)?.run(Class::Not(quote)).skip(quote)
     }
 
-    // A `match` here, in `value` and in `token`, as a proof knows nothing of what the closure of an `or_else` answers by a method's call.
+    // A `match` here, in `value` and in `token`: `or_else` was tried, and the proof, which knows nothing of what its closure answers, did not close.
     #[tactic(auto, unfolding(crate::specs::Lengths::key_length))]
     fn key(self) -> Option<Self>
         ensures { Behind key_length self.entry result }

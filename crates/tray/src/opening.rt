@@ -30,6 +30,7 @@ impl<T: Drop> From<AllocFailed<T>> for OpenError {
     }
 }
 
+// By hand and no derive, since a clause says what it writes.
 impl fmt::Display for OpenError {
     ghost output = { λ e. Some (words_of e) };
 

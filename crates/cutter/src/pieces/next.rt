@@ -41,6 +41,7 @@ impl<'a> Cutter<'a> {
     pub fn next(&mut self) -> Result<Option<Piece<'a>>, Unclosed>
         ensures { Gave (left self.old) result (left self.new) }
     {
+        // No iterator: each byte changes the cutter itself, which the caller gets back in the middle of its bytes.
         while let Some(b) = self.rest.src.get(self.rest.at) {
             let Place { src, at } = self.rest;
             let start = self.start;

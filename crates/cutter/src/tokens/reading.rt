@@ -61,6 +61,7 @@ fn range_of(word: Word<'_>) -> Token<'_>
     requires { 1 ≤ length word.bytes.now }
     ensures { reading result ≡ range_of word.entry.place word.entry.bytes.now }
 {
+    // `token` cannot fail: bytes that are no token, which no cursor gives, are nil, here and below.
     let Some(Anchored { base, .. }) = Anchored::new(word) else {
         return Token::Nil;
     };

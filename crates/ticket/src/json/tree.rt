@@ -3,7 +3,7 @@
 use crate::json::errors::{Fault, JsonError};
 use std::alloc::Global;
 
-// A part of a buffer of texts.
+// A part of a buffer of texts, where the one of `nodes` is a part of a template.
 #[derive(Clone, Copy, Debug, PartialEq, Eq)]
 pub(crate) struct Part {
     pub(crate) place: usize,
