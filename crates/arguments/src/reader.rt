@@ -20,8 +20,8 @@ pub enum CycleName {
 }
 
 /// The source and the tables that it is read into; and the tokens of the mark at `mark` that are ahead.
-#[derive(Debug, PartialEq, Eq, Drop)]
 // `Grown` and `Lies` stand in many contracts and in no type: they are of two states of a reader, or of a reader and bytes.
+#[derive(Debug, PartialEq, Eq, Drop)]
 pub struct Reader<'a> {
     pub source: &'a [u8],
     pub names: Vec<Part>,
