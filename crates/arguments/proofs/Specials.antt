@@ -1,7 +1,6 @@
 -- What the first name of a path is, by its bytes.
-use Rattle.std.proofs.Common.{◌≡◌, ℕ, cond, List, codes, ap, ap₂, ◌∙◌}
+use Rattle.std.proofs.Common.{◌≡◌, ℕ, cond, List, codes, ap, ap₂}
 use Rattle.tray.proofs.Same.{reads, same_reads}
-use Rattle.arguments.specs.declared.words.Special.{Special}
 use Rattle.arguments.specs.declared.words.Special.TheVariants.{Forloop, Tablerowloop, Barred, Free}
 use Rattle.arguments.specs.Values.{special}
 

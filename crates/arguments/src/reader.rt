@@ -13,7 +13,7 @@ pub mod values;
 pub mod words;
 
 /// A cycle name of at most 128 bytes: given in the tag, or made of its values.
-#[derive(Debug, PartialEq, Eq, Drop)]
+#[derive(Clone, Debug, PartialEq, Eq, Drop)]
 pub enum CycleName {
     Given(ArrayVec<u8, 128>),
     Made(ArrayVec<u8, 128>),

@@ -27,7 +27,7 @@ impl<'a> Short<'a> {
     pub fn new(bytes: &'a [u8]) -> Option<Short<'a>>
         ensures { MatchOption result (256 < length bytes.now) (λ s. text_of s ≡ bytes.now) }
     {
-        // `then_some` would make the text before its bound is known.
+        // `then` was tried: the bound of the text that its closure makes did not close.
         if bytes.len() <= LONGEST {
             Some(Short { bytes })
         } else {

@@ -13,6 +13,7 @@ pub fn write_bytes(bytes: &[u8], out: &mut [u8]) -> Option<usize>
     ensures { MatchOption result ((length out.old < length bytes.now) × (out.new ≡ out.old)) (λ k. (k ≡ length bytes.now) × (out.new ≡ bytes.now ++ drop k out.old)) }
 {
     let end = bytes.len();
+    // `get_mut` was tried: it says nothing of the buffer where there is no room.
     if out.len() < end {
         return None;
     }

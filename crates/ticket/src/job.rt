@@ -29,7 +29,7 @@ impl TrayBytes {
 }
 
 // The same, borrowed.
-#[derive(Clone, Copy)]
+#[derive(Clone, Copy, Debug, PartialEq, Eq)]
 pub(crate) struct TrayParts<'a> {
     pub(crate) records: &'a [u8],
     pub(crate) text: &'a [u8],
@@ -150,6 +150,7 @@ fn read_line(rt: &HostRuntime, line: &[u8]) -> Result<Option<Action>, LineError>
         return Ok(None);
     }
     let at = cursor.at();
+    // A `match` on the words of a language is its table; closures would say no more.
     let action = match cursor.word() {
         b"host" => read_object(rt.alloc(), cursor, Action::Open)?,
         b"tray" => read_tray(rt, cursor)?,

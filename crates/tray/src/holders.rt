@@ -29,6 +29,7 @@ fn hold(held: &mut [bool], h: usize, records: Range<usize>) -> bool
     requires { records.start ≤ records.end }
     ensures { MatchBool result (Took h records.start (records.end - records.start) held.old held.new) (Barred h records.start (records.end - records.start) held.old) }
 {
+    // By numbers: where there are none, they may begin past the marks, and no slice can be cut.
     for c in records {
         if c <= h || c >= held.len() || held[c] {
             return false;
@@ -57,6 +58,7 @@ fn keys_at(records: &[Record], entries: Span) -> bool
     requires { 0 < entries.count → entries.first + 2 * entries.count ≤ length records.now }
     ensures { Decides result (Keyed records.now entries.first entries.count) }
 {
+    // By numbers: where there are no entries, the span may begin past the end, and no slice can be cut.
     for j in 0..entries.count {
         if !records[entries.key(j)].is_text() {
             return false;

@@ -18,6 +18,7 @@ pub(crate) fn names_free(records: &[Record], text: &[u8], entries: Span) -> bool
     requires { 0 < entries.count → entries.first + 2 * entries.count ≤ length records.now }
     ensures { Decides result (Free records.now text.now entries.first entries.count) }
 {
+    // By numbers: where there are no entries, the span may begin past the end, and no slice can be cut.
     for j in 0..entries.count {
         if is_reserved(key_of(text, records[entries.key(j)])) {
             return false;

@@ -2,8 +2,8 @@
 ghost use Rattle.std.specs.Prelude.{◌≡◌, ◌+◌, ◌*◌};
 
 /// Bytes, records or entries that stand one after another: the number of the first, and how many.
-// Items and entries are walked by a `for` over `0..count`, with `item` or `key`: a tray gives out records by number, and
-// no slice holds them.
+// Items and entries of a tray are walked by a `for` over `0..count`, with `item` or `key`, since a tray gives out records
+// by number and no slice.
 #[derive(Clone, Copy, Debug, PartialEq, Eq)]
 pub struct Span {
     pub first: u16,

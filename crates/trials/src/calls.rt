@@ -34,6 +34,7 @@ impl Calls {
         let heap = self.heap;
         let mut words = call.split_whitespace();
         let name = word(&mut words)?;
+        // A `match` on the words of a language is its table; closures would say no more.
         match name {
             "write" => write(heap, &mut words),
             "read" => maybe(heap, read_whole(text(&mut words)?)),

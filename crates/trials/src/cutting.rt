@@ -31,6 +31,7 @@ fn listed<'a, F: FnMut() -> Result<Option<Part<'a>>, Part<'a>>>(
     requires { F.IsAlwaysCallable next }
 {
     let mut answer = String::new(heap);
+    // There are no more parts than bytes.
     for _ in 0..bytes.len() {
         match next() {
             Ok(Some(part)) => push_part(&mut answer, part)?,
@@ -83,17 +84,17 @@ fn of_word<'a>(word: Word<'a>) -> Part<'a> {
 // Each piece with its place, and `end` or the place of a mark that is not closed.
 pub(crate) fn cut(heap: Global, part: &[u8]) -> Result<String, Wrong> {
     let mut cutter = Cutter::new(part);
-    listed(heap, part, || match cutter.next() {
-        Ok(piece) => Ok(piece.map(of_piece)),
-        Err(e) => Err(refused("unclosed", e.place)),
+    listed(heap, part, || {
+        let next = cutter.next().map_err(|e| refused("unclosed", e.place));
+        next.map(|piece| piece.map(of_piece))
     })
 }
 
 // Each token with its place, and `end` or the place where there is none.
 pub(crate) fn tokens(heap: Global, inside: &[u8]) -> Result<String, Wrong> {
     let mut cursor = Cursor::new(inside);
-    listed(heap, inside, || match cursor.next() {
-        Ok(word) => Ok(word.map(of_word)),
-        Err(e) => Err(refused("none", e.place)),
+    listed(heap, inside, || {
+        let next = cursor.next().map_err(|e| refused("none", e.place));
+        next.map(|word| word.map(of_word))
     })
 }

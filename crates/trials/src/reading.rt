@@ -19,6 +19,7 @@ pub(crate) fn answer(
     words: &mut SplitWhitespace<'_>,
 ) -> Result<String, Wrong> {
     let record = parsed(words)?;
+    // A `match` on the words of a language is its table; closures would say no more.
     match call {
         "length" => maybe(heap, text_len(tray, record, parsed(words)?)),
         "text" => laid_text(heap, tray, record, parsed(words)?),

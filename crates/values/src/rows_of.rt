@@ -31,7 +31,7 @@ impl<const WIDTH: u8> Row for Parts<WIDTH> {
     }
 
     fn item(&self, k: usize) -> Option<usize> {
-        // `then_some` would have the place worked out before its bound is known.
+        // `then` was tried: the bounds of the place in its closure did not close.
         if k < self.span.count as usize {
             Some(self.span.first as usize + WIDTH as usize * k)
         } else {

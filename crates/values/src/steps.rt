@@ -33,12 +33,7 @@ fn place(count: u16, z: i64) -> Option<u16>
 {
     let n = i64::from(count);
     let k = if z < 0 { n + z } else { z };
-    // `then_some` would have the cast done before its bound is known.
-    if 0 <= k && k < n {
-        Some(k as u16)
-    } else {
-        None
-    }
+    (0 <= k && k < n).then(|| k as u16)
 }
 
 fn item(items: Span, z: i64) -> Option<Found>
@@ -71,11 +66,10 @@ fn into_items(items: Span, step: Step) -> Option<Found>
 fn entry_named(tray: &Tray, entries: Span, name: &[u8]) -> Option<Found>
     ensures { result ≡ among_entries (text_at tray.now) entries.first entries.count name.now }
 {
-    match find_in(tray, entries, name) {
-        Some(i) => Some(Found::Record(i)),
-        None if same_text(name, b"size") => Some(Found::Size(entries.count as usize)),
-        None => None,
+    if let Some(i) = find_in(tray, entries, name) {
+        return Some(Found::Record(i));
     }
+    same_text(name, b"size").then_some(Found::Size(entries.count as usize))
 }
 
 fn into_entries(tray: &Tray, entries: Span, step: Step) -> Option<Found>

@@ -1,12 +1,11 @@
 // Values, rows and targets.
 ghost use Rattle.std.specs.Prelude.{◌≡◌, []};
-ghost use Rattle.cutter.specs.Paths.{steps_of, steps_left, placed_step};
+ghost use Rattle.cutter.specs.Paths.{steps_of, placed_step};
 ghost use Rattle.cutter.specs.Tokens.{token_of};
-ghost use Rattle.nodes.specs.Exprs.{head_of, expr_of, row_of};
-ghost use Rattle.arguments.specs.Judging.{seen};
-ghost use Rattle.arguments.specs.Values.{head, a_path, value_as, value, row_as, a_row, bare, read, new_name, target};
-ghost use Rattle.arguments.specs.Tables.{part_in, lists_of, pool_of, under, Said, Grown, Lies};
-ghost use Rattle.arguments.specs.Reading.{Heads, Exprs, Rows, Stepped, entry_of};
+ghost use Rattle.nodes.specs.Exprs.{expr_of};
+ghost use Rattle.arguments.specs.Values.{head, a_path, value_as, value};
+ghost use Rattle.arguments.specs.Tables.{part_in, pool_of, under, Said, Grown, Lies};
+ghost use Rattle.arguments.specs.Reading.{Heads, Exprs, Stepped, entry_of};
 
 use crate::reader::Reader;
 use crate::reader::lists::part_in;

@@ -109,7 +109,7 @@ impl<'a> Word<'a> {
         plain_of(read_whole(bytes), symbol_of(bytes))
     }
 
-    /// Whether these are the token's bytes as written.
+    /// Whether these are the token's bytes as written: the `==` of slices, in the words of the definitions.
     pub fn is(self, word: &[u8]) -> bool
         ensures { result ≡ bytes_eq self.entry.bytes.now word.now }
     {

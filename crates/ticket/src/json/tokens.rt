@@ -116,6 +116,7 @@ impl<'a> Cursor<'a> {
             _ => first,
         };
         let c = char::from_u32(code).ok_or(JsonError::Bad(at, Fault::Surrogate))?;
+        // `encode_utf8` asks for a buffer.
         let mut room = [0u8; 4];
         texts.extend_from_slice(c.encode_utf8(&mut room).as_bytes())?;
         Ok(())
@@ -149,6 +150,7 @@ impl<'a> Cursor<'a> {
         ensures { IfOk result (λ d. (d < 16) × (length self.new.rest.now ≤ length self.old.rest.now)) }
     {
         let at = self.at();
+        // `to_digit` was weighed: it gives a `u32` of a `char`, and both would be cast.
         match self.take() {
             Some(b @ b'0'..=b'9') => Ok(b - b'0'),
             Some(b @ b'a'..=b'f') => Ok(b - b'a' + 10),
