@@ -4,13 +4,14 @@ use Rattle.std.proofs.lemmas.Bool.{le-leb}
 use Rattle.std.proofs.lemmas.List.{drop-drop, take-take, drop-take}
 use Rattle.cutter.specs.Tokens as cutter
 use Rattle.nodes.specs.Exprs.{only, bytes_of}
+use Rattle.nodes.specs.Wider.{Front}
 use Rattle.nodes.proofs.Options.{front_refl, front_then}
 use Rattle.nodes.proofs.Widens.{wider_refl, wider_then}
 use Rattle.arguments.specs.declared.reader.Reader.{Reader}
 use Rattle.arguments.specs.declared.refusals.Stop.{Stop}
 use Rattle.arguments.specs.declared.refusals.Stop.TheVariants.{Refused, Memory}
 use Rattle.arguments.specs.Judging.{State, Verdict, passes, Judge, went}
-use Rattle.arguments.specs.Tables.{pool_of, Refuses, Said, Grown, Lies}
+use Rattle.arguments.specs.Tables.{pool_of, Refuses, Said, Grown, Longer, Lies}
 
 pub grown_then : (d e f : Reader) → Grown d e → Grown e f → Grown d f
 grown_then d e f h k =
@@ -24,6 +25,22 @@ grown_then d e f h k =
 
 pub grown_refl : (d : Reader) → Grown d d
 grown_refl d = record { pool = wider_refl (pool_of d); names = front_refl _; cycles = front_refl _; nodes = refl; mark = refl }
+
+pub grown_longer : (d e : Reader) → Grown d e → Longer d e
+grown_longer d e h = record { pool = h.pool; names = h.names; cycles = h.cycles; nodes = subst (Front (vec_items d.nodes)) (sym h.nodes) (front_refl _); mark = h.mark }
+
+pub longer_refl : (d : Reader) → Longer d d
+longer_refl d = record { pool = wider_refl (pool_of d); names = front_refl _; cycles = front_refl _; nodes = front_refl _; mark = refl }
+
+pub longer_then : (d e f : Reader) → Longer d e → Longer e f → Longer d f
+longer_then d e f h k =
+    record {
+      pool = wider_then (pool_of d) (pool_of e) (pool_of f) h.pool k.pool;
+      names = front_then (vec_items d.names) (vec_items e.names) (vec_items f.names) h.names k.names;
+      cycles = front_then (vec_items d.cycles) (vec_items e.cycles) (vec_items f.cycles) h.cycles k.cycles;
+      nodes = front_then (vec_items d.nodes) (vec_items e.nodes) (vec_items f.nodes) h.nodes k.nodes;
+      mark = k.mark ∙ h.mark;
+    }
 
 -- a refusal stays one, whatever would follow
 pub refuses_went : {B C : Type 0} (e : Stop) (v : Verdict B) (k : B → Judge C) → Refuses e v → Refuses e (went v k)

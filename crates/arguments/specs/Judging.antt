@@ -1,5 +1,5 @@
 -- How the tokens of a mark are judged: one after another, each as it is taken, with the lists of the sheet that it may add to.
-use Rattle.std.specs.Prelude.{ℕ, ◌+◌, Bool, cond, ◌&&◌, List, [], ◌∷◌, ◌++◌, length, Some, None, Option, nat_le, nat_lt}
+use Rattle.std.specs.Prelude.{ℕ, ◌+◌, Bool, true, false, cond, ◌&&◌, not, List, [], ◌∷◌, ◌++◌, length, Some, None, Option, nat_le, nat_lt}
 use Rattle.rows.specs.First.{first_from}
 use Rattle.tray.specs.Parts.{same_text}
 use Rattle.cutter.specs.Words.{Words, over, wrong, word}
@@ -91,12 +91,25 @@ none_left (word p b rest) l = refuses 6 p
 unfoldable pub finished : Judge (Prim.Unit {0})
 finished s = none_left s.ahead s.lists
 
+abbrev pub right_or : Bool → ℕ → Judge (Prim.Unit {0})
+right_or true p = pure tt
+right_or false p = refuse 6 p
+
+-- the next token is such a one
+unfoldable pub expect : (Seen → Bool) → ℕ → Judge (Prim.Unit {0})
+expect f m = token m next λ w. right_or (f w) w.place
+
+-- the lists with another count of nodes
 abbrev pub noted : ℕ → Lists → Lists
 noted n l = record { names = l.names; cycles = l.cycles; nodes = n; asked = l.asked }
 
--- one node more, for what stands at place p; 4,096 are the most
-unfoldable pub node_at : ℕ → Judge (Prim.Unit {0})
-node_at p s = cond (nat_lt s.lists.nodes 4096) (passes tt (state s.ahead (noted (s.lists.nodes + 1) s.lists))) (refuses 2 p)
+-- there is room for one node more, for what stands at place p: 4,096 are the most
+unfoldable pub room_at : ℕ → Judge (Prim.Unit {0})
+room_at p s = cond (nat_lt s.lists.nodes 4096) (passes tt s) (refuses 2 p)
+
+-- one node more
+unfoldable pub one_more : Judge (Prim.Unit {0})
+one_more s = passes tt (state s.ahead (noted (s.lists.nodes + 1) s.lists))
 
 abbrev pub with_name : List ℕ → Lists → Lists
 with_name n l = record { names = l.names ++ (n ∷ []); cycles = l.cycles; nodes = l.nodes; asked = l.asked }
@@ -117,3 +130,20 @@ with_asked p n l = record { names = l.names; cycles = l.cycles; nodes = l.nodes;
 -- notes a filter, for which the bank is asked last of all
 unfoldable pub ask : ℕ → List ℕ → Judge (Prim.Unit {0})
 ask p n s = passes tt (state s.ahead (with_asked p n s.lists))
+
+abbrev pub with_cycle : CycleName → Lists → Lists
+with_cycle c l = record { names = l.names; cycles = l.cycles ++ (c ∷ []); nodes = l.nodes; asked = l.asked }
+
+-- both given or both made, with the same bytes
+abbrev pub same_cycle : CycleName → CycleName → Bool
+same_cycle c d = cond c.given d.given (not d.given) && same_text c.bytes d.bytes
+
+abbrev pub cycle_entered : ℕ → CycleName → Option ℕ → Judge ℕ
+cycle_entered p c (Some k) s = passes k s
+cycle_entered p c None s =
+    cond (nat_le (length c.bytes) 128 && nat_lt (length s.lists.cycles) 32)
+    (passes (length s.lists.cycles) (state s.ahead (with_cycle c s.lists))) (refuses 2 p)
+
+-- the number of a cycle name, which enters where it is new: at most 32 of at most 128 bytes
+unfoldable pub enter_cycle : ℕ → CycleName → Judge ℕ
+enter_cycle p c s = cycle_entered p c (first_from (λ d. same_cycle d c) 0 s.lists.cycles) s

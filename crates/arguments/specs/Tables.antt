@@ -67,6 +67,14 @@ pub record Grown (d e : Reader) : Type 0 where
   pub nodes : vec_items e.nodes ≡ vec_items d.nodes
   pub mark : e.mark ≡ d.mark
 
+-- The tables have only grown, the nodes too, and the mark is the same.
+pub record Longer (d e : Reader) : Type 0 where
+  pub pool : Wider (pool_of d) (pool_of e)
+  pub names : Front (vec_items d.names) (vec_items e.names)
+  pub cycles : Front (vec_items d.cycles) (vec_items e.cycles)
+  pub nodes : Front (vec_items d.nodes) (vec_items e.nodes)
+  pub mark : e.mark ≡ d.mark
+
 -- bytes that stand in the source at a place
 pub record Lies (source : List ℕ) (place : ℕ) (b : List ℕ) : Type 0 where
   pub to : place + length b ≤ length source

@@ -49,6 +49,21 @@ value_as p q (is_path n ss) = a_path p n (steps_of (q + length n) ss)
 value_as p q (is_range a x b y) = refuse 6 p
 value_as p q (is_symbol s) = refuse 6 p
 
+-- a token that may be a value, whatever else is wrong with it
+abbrev pub is_value : Reading → Bool
+is_value is_nil = true
+is_value (is_boolean b) = true
+is_value (is_number z) = true
+is_value (is_text t) = true
+is_value (is_name n) = true
+is_value (is_path n ss) = true
+is_value (is_range a x b y) = false
+is_value (is_symbol s) = false
+
+-- one value too many; what is none is refused as such
+abbrev pub too_many : {A : Type 0} → Seen → Judge A
+too_many w = cond (is_value (read w)) (refuse 2 w.place) (refuse 6 w.place)
+
 -- a value, of a mark at place m
 unfoldable pub value : ℕ → Judge Expr
 value m = token m next λ w. value_as w.place w.place (read w)
@@ -82,6 +97,10 @@ bare (is_symbol s) = None
 abbrev pub is_word : List ℕ → Option (List ℕ) → Bool
 is_word w None = false
 is_word w (Some n) = same_text n w
+
+-- a token that is this bare name
+abbrev pub is_the_word : List ℕ → Seen → Bool
+is_the_word n w = is_word n (bare (read w))
 
 -- a target or loop variable: a bare name that is not reserved
 abbrev pub new_name : ℕ → Option (List ℕ) → Judge ℕ
@@ -117,17 +136,21 @@ rank symbol.Bar = 9
 abbrev pub same_symbol : Symbol → Symbol → Bool
 same_symbol a b = rank a == rank b
 
--- a token that is this symbol, by its place
-abbrev pub placed_if : Bool → ℕ → Option ℕ
-placed_if true p = Some p
-placed_if false p = None
-
 abbrev pub has_symbol : Symbol → Option Symbol → Bool
 has_symbol s None = false
 has_symbol s (Some t) = same_symbol s t
 
+-- a token that is this symbol
+abbrev pub is_the_symbol : Symbol → Seen → Bool
+is_the_symbol s w = has_symbol s (symbol_in (read w))
+
+abbrev pub placed_if : Bool → ℕ → Option ℕ
+placed_if true p = Some p
+placed_if false p = None
+
+-- the same, by its place
 abbrev pub symbol_at : Symbol → Seen → Option ℕ
-symbol_at s w = placed_if (has_symbol s (symbol_in (read w))) w.place
+symbol_at s w = placed_if (is_the_symbol s w) w.place
 
 -- a filter's argument, behind a colon
 abbrev pub argument_behind : ℕ → Option ℕ → Judge (Option Expr)
