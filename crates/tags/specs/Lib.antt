@@ -1,0 +1,5 @@
+pub mod Leaves
+pub mod Conditions
+pub mod Whens
+pub mod Loops
+pub mod Cycles
