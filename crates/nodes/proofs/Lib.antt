@@ -1,2 +1,3 @@
+pub mod Builds
 pub mod Options
 pub mod Widens

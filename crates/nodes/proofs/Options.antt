@@ -30,6 +30,13 @@ pub mapped_parts : {A B : Type 0} (f : A → B) (o : Option A) (y : B) → optio
 mapped_parts f None y e = none_some y e
 mapped_parts f (Some x) y e = (x, refl, some_is (f x) y e)
 
+-- what is given, where a test passes
+pub where_is : {A : Type 0} (b : Bool) (o : Option A) → b ≡ true → where_so b o ≡ o
+where_is b o e = ap (λ t. where_so t o) e
+
+pub only_is : {A : Type 0} (b : Bool) (x : A) → b ≡ true → only b x ≡ Some x
+only_is b x e = ap (λ t. only t x) e
+
 pub keeps_refl : {A : Type 0} (o : Option A) → Keeps o o
 keeps_refl o y e = e
 

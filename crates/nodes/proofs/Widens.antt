@@ -211,7 +211,7 @@ module _ (b c : Pool) (w : Wider b c) where
     ArmsKeep k l = (n : Next) (room i e : ℕ) → Agree ns ms i e → Keeps (arms_of b ns k n room i e) (arms_of c ms l n room i e)
 
     module _ (k l : ℕ) (elements : ElementsKeep k l) (arms : ArmsKeep k l) (room i e : ℕ) (h : Agree ns ms i e) where
-      keeps_arm : (a : Arm) →
+      pub keeps_arm : (a : Arm) →
           Keeps (arm_of b ns (λ r x z. elements_of b ns k r x z) (λ n r x z. arms_of b ns k n r x z) room i e a)
           (arm_of c ms (λ r x z. elements_of c ms l r x z) (λ n r x z. arms_of c ms l n r x z) room i e a)
       keeps_arm a =

@@ -1,3 +1,4 @@
+pub mod Built
 pub mod Exprs
 pub mod Trees
 pub mod Wider
