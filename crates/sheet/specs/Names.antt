@@ -1,0 +1,65 @@
+-- The names of tags.
+use Rattle.std.specs.Prelude.{ℕ, cond, List, Some, None, codes, Option}
+use Rattle.std.specs.Option.{option_map}
+use Rattle.tray.specs.Parts.{same_text}
+use Rattle.cutter.specs.Words.{Words, over, wrong, word}
+use Rattle.arguments.specs.Judging.{Lists, State, state, Verdict, refuses, passes, Judge, Seen, seen}
+use Rattle.arguments.specs.Values.{read, bare}
+use Rattle.sheet.specs.declared.names.Simple.{Simple}
+use Rattle.sheet.specs.declared.names.Simple.TheVariants as simple
+use Rattle.sheet.specs.declared.names.Block.{Block}
+use Rattle.sheet.specs.declared.names.Block.TheVariants as block
+use Rattle.sheet.specs.declared.names.Known.{Known}
+use Rattle.sheet.specs.declared.names.Known.TheVariants as known
+use Rattle.sheet.specs.declared.names.Closer.{Closer}
+use Rattle.sheet.specs.declared.names.Closer.TheVariants as closing
+
+-- the tags that hold no elements
+abbrev pub simple_as : List ℕ → Option Simple
+simple_as n =
+    cond (same_text n (codes "assign")) (Some simple.Assign)
+    (cond (same_text n (codes "increment")) (Some simple.Increment)
+    (cond (same_text n (codes "decrement")) (Some simple.Decrement)
+    (cond (same_text n (codes "cycle")) (Some simple.Cycle)
+    (cond (same_text n (codes "break")) (Some simple.Break)
+    (cond (same_text n (codes "continue")) (Some simple.Continue) None)))))
+
+-- the tags that hold elements
+abbrev pub block_as : List ℕ → Option Block
+block_as n =
+    cond (same_text n (codes "if")) (Some block.If)
+    (cond (same_text n (codes "unless")) (Some block.Unless)
+    (cond (same_text n (codes "case")) (Some block.Case)
+    (cond (same_text n (codes "for")) (Some block.For)
+    (cond (same_text n (codes "tablerow")) (Some block.Tablerow)
+    (cond (same_text n (codes "capture")) (Some block.Capture)
+    (cond (same_text n (codes "ifchanged")) (Some block.Ifchanged) None))))))
+
+abbrev pub known_by : Option Simple → Option Block → Option Known
+known_by (Some s) b = Some (known.Simple s)
+known_by None b = option_map known.Block b
+
+-- the tags that begin an element
+abbrev pub known_as : List ℕ → Option Known
+known_as n = known_by (simple_as n) (block_as n)
+
+-- what a tag that begins no element is to a block whose end tag has the name e
+abbrev pub closer : List ℕ → List ℕ → Closer
+closer e n =
+    cond (same_text n e) closing.End
+    (cond (same_text n (codes "else")) closing.Else
+    (cond (same_text n (codes "elsif")) closing.Elsif
+    (cond (same_text n (codes "when")) closing.When closing.Other)))
+
+abbrev pub named_so : Seen → Option (List ℕ) → State → Verdict Seen
+named_so w None s = refuses 5 w.place
+named_so w (Some n) s = passes w s
+
+abbrev pub first_token : ℕ → Words → Lists → Verdict Seen
+first_token m over l = refuses 5 m
+first_token m (wrong p) l = refuses 4 p
+first_token m (word p b rest) l = named_so (seen p b) (bare (read (seen p b))) (state rest l)
+
+-- the name of a tag: its first token, a bare name
+unfoldable pub tag_name : ℕ → Judge Seen
+tag_name m s = first_token m s.ahead s.lists

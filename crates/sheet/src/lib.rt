@@ -1,0 +1,5 @@
+//! Templates read into a sheet.
+
+#![tactic(auto)]
+
+mod names;
