@@ -4,3 +4,4 @@ pub mod Chaining
 pub mod Paths
 pub mod Lying
 pub mod Specials
+pub mod Marks

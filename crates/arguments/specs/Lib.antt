@@ -4,3 +4,4 @@ pub mod Refusals
 pub mod Standing
 pub mod Tables
 pub mod Reading
+pub mod Marks

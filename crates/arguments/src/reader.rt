@@ -9,6 +9,7 @@ use nodes::exprs::{Expr, Filter, Part, Step};
 use nodes::table::Node;
 
 pub mod lists;
+pub mod marks;
 pub mod values;
 pub mod words;
 

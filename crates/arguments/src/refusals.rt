@@ -4,6 +4,7 @@ ghost use Rattle.arguments.specs.Refusals.{number_of};
 ghost use Rattle.arguments.specs.declared.refusals.Refusal.TheVariants as refusal;
 ghost use Rattle.arguments.specs.declared.refusals.Stop.TheVariants.{Refused, Memory};
 
+use cutter::pieces::Unclosed;
 use cutter::tokens::NoToken;
 use std::alloc::AllocFailed;
 
@@ -41,6 +42,14 @@ impl From<NoToken> for Stop {
 
     fn from(e: NoToken) -> Stop {
         Stop::Refused(Refusal::NoToken, e.place)
+    }
+}
+
+impl From<Unclosed> for Stop {
+    ghost from_gives = { λ e s. s ≡ Refused refusal.Unclosed e.place };
+
+    fn from(e: Unclosed) -> Stop {
+        Stop::Refused(Refusal::Unclosed, e.place)
     }
 }
 
