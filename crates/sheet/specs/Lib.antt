@@ -1,3 +1,6 @@
 pub mod Steps
 pub mod Names
+pub mod Blocks
 pub mod Parsing
+pub mod Standing
+pub mod Answers

@@ -3,3 +3,5 @@
 #![tactic(auto)]
 
 mod names;
+mod parser;
+mod pieces;
