@@ -19,12 +19,13 @@ grown_then d e f h k =
       pool = wider_then (pool_of d) (pool_of e) (pool_of f) h.pool k.pool;
       names = front_then (vec_items d.names) (vec_items e.names) (vec_items f.names) h.names k.names;
       cycles = front_then (vec_items d.cycles) (vec_items e.cycles) (vec_items f.cycles) h.cycles k.cycles;
+      values = k.values ∙ h.values;
       nodes = k.nodes ∙ h.nodes;
       mark = k.mark ∙ h.mark;
     }
 
 pub grown_refl : (d : Reader) → Grown d d
-grown_refl d = record { pool = wider_refl (pool_of d); names = front_refl _; cycles = front_refl _; nodes = refl; mark = refl }
+grown_refl d = record { pool = wider_refl (pool_of d); names = front_refl _; cycles = front_refl _; values = refl; nodes = refl; mark = refl }
 
 pub grown_longer : (d e : Reader) → Grown d e → Longer d e
 grown_longer d e h = record { pool = h.pool; names = h.names; cycles = h.cycles; nodes = subst (Front (vec_items d.nodes)) (sym h.nodes) (front_refl _); mark = h.mark }

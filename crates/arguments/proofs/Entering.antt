@@ -1,10 +1,11 @@
 -- Names that enter.
-use Rattle.std.proofs.Common.{◌≡◌, ℕ, ◌+◌, ◌<◌, ◌≤◌, Bool, false, cond, ◌&&◌, ◌⊎◌, inl, inr, ltb, leb, List, [], ◌∷◌, map, length, Some, None, refl, ap, ◌∙◌}
-use Rattle.std.proofs.lemmas.Bool.{le-leb, lt-leb, lt-ltb, le-ltb, and_left, and_right, and_from}
+use Rattle.std.proofs.Common.{◌≡◌, ℕ, ◌+◌, ◌<◌, ◌≤◌, Bool, true, false, cond, ◌&&◌, ◌⊎◌, inl, inr, ltb, leb, List, [], ◌∷◌, map, length, Some, None, Ok, Err, Result, refl, ap, ◌∙◌}
+use Rattle.std.specs.Result.{is_err, IsOk}
+use Rattle.std.proofs.lemmas.Bool.{false≢true, leb-true, leb-false, le-leb, lt-leb, lt-ltb, le-ltb, and_left, and_right, and_from}
 use Rattle.std.specs.List.{position_from}
 use Rattle.rows.specs.First.{first_from}
 use Rattle.tray.specs.Parts.{same_text}
-use Rattle.arguments.specs.Judging.{State, state, refuses, passes, with_name, entered, enter}
+use Rattle.arguments.specs.Judging.{CycleName, State, state, refuses, passes, with_name, entered, enter, with_cycle, same_cycle, cycle_entered, enter_cycle}
 
 pub first_map : {A B : Type 0} (p : B → Bool) (f : A → B) (n : ℕ) (xs : List A) → first_from p n (map f xs) ≡ first_from (λ x. p (f x)) n xs
 first_map p f n [] = refl
@@ -35,3 +36,38 @@ module _ (p : ℕ) (n : List ℕ) (s : State) where
   enter_new e h k =
       ap (λ o. entered p n o s) e
       ∙ ap (λ b. cond b (passes (length s.lists.names) (state s.ahead (with_name n s.lists))) (refuses 2 p)) (and_from (leb (length n) 32) (ltb (length s.lists.names) 128) (le-leb (length n) 32 h) (lt-ltb (length s.lists.names) 128 k))
+
+-- the same of cycle names
+module _ (p : ℕ) (c : CycleName) (s : State) where
+  pub cycle_found : length c.bytes ≤ 128 → (k : ℕ) → first_from (λ d. same_cycle d c) 0 s.lists.cycles ≡ Some k → enter_cycle p c s ≡ passes k s
+  unfolding enter_cycle
+  cycle_found h k e =
+      ap (λ b. cond b (cycle_entered p c (first_from (λ d. same_cycle d c) 0 s.lists.cycles) s) (refuses 2 p)) (le-leb (length c.bytes) 128 h) ∙ ap (λ o. cycle_entered p c o s) e
+
+  pub cycle_long : 128 < length c.bytes → enter_cycle p c s ≡ refuses 2 p
+  unfolding enter_cycle
+  cycle_long h = ap (λ b. cond b (cycle_entered p c (first_from (λ d. same_cycle d c) 0 s.lists.cycles) s) (refuses 2 p)) (lt-leb (length c.bytes) 128 h)
+
+  pub cycle_full : length c.bytes ≤ 128 → first_from (λ d. same_cycle d c) 0 s.lists.cycles ≡ None → 32 ≤ length s.lists.cycles → enter_cycle p c s ≡ refuses 2 p
+  unfolding enter_cycle
+  cycle_full h e k =
+      ap (λ b. cond b (cycle_entered p c (first_from (λ d. same_cycle d c) 0 s.lists.cycles) s) (refuses 2 p)) (le-leb (length c.bytes) 128 h)
+      ∙ ap (λ o. cycle_entered p c o s) e
+      ∙ ap (λ b. cond b (passes (length s.lists.cycles) (state s.ahead (with_cycle c s.lists))) (refuses 2 p)) (le-ltb (length s.lists.cycles) 32 k)
+
+  pub cycle_new : length c.bytes ≤ 128 → first_from (λ d. same_cycle d c) 0 s.lists.cycles ≡ None → length s.lists.cycles < 32 →
+      enter_cycle p c s ≡ passes (length s.lists.cycles) (state s.ahead (with_cycle c s.lists))
+  unfolding enter_cycle
+  cycle_new h e k =
+      ap (λ b. cond b (cycle_entered p c (first_from (λ d. same_cycle d c) 0 s.lists.cycles) s) (refuses 2 p)) (le-leb (length c.bytes) 128 h)
+      ∙ ap (λ o. cycle_entered p c o s) e
+      ∙ ap (λ b. cond b (passes (length s.lists.cycles) (state s.ahead (with_cycle c s.lists))) (refuses 2 p)) (lt-ltb (length s.lists.cycles) 32 k)
+
+-- what does not fit in so many places is longer
+pub too_long : {T E : Type 0} (r : Result T E) (n k : ℕ) → is_err r ≡ true → (n ≤ k → IsOk r) → k < n
+too_long (Ok x) n k e h = absurd (false≢true e)
+too_long (Err x) n k e h = by_test (leb n k) refl
+  where
+    by_test : (b : Bool) → leb n k ≡ b → k < n
+    by_test true t = absurd (false≢true (h (leb-true n k t)))
+    by_test false t = leb-false n k t

@@ -140,10 +140,8 @@ same_cycle c d = cond c.given d.given (not d.given) && same_text c.bytes d.bytes
 
 abbrev pub cycle_entered : ℕ → CycleName → Option ℕ → Judge ℕ
 cycle_entered p c (Some k) s = passes k s
-cycle_entered p c None s =
-    cond (nat_le (length c.bytes) 128 && nat_lt (length s.lists.cycles) 32)
-    (passes (length s.lists.cycles) (state s.ahead (with_cycle c s.lists))) (refuses 2 p)
+cycle_entered p c None s = cond (nat_lt (length s.lists.cycles) 32) (passes (length s.lists.cycles) (state s.ahead (with_cycle c s.lists))) (refuses 2 p)
 
 -- the number of a cycle name, which enters where it is new: at most 32 of at most 128 bytes
 unfoldable pub enter_cycle : ℕ → CycleName → Judge ℕ
-enter_cycle p c s = cycle_entered p c (first_from (λ d. same_cycle d c) 0 s.lists.cycles) s
+enter_cycle p c s = cond (nat_le (length c.bytes) 128) (cycle_entered p c (first_from (λ d. same_cycle d c) 0 s.lists.cycles) s) (refuses 2 p)

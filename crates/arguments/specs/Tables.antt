@@ -5,6 +5,7 @@ use Rattle.cutter.specs.Ahead.{ahead}
 use Rattle.cutter.specs.declared.places.Placed.{Placed}
 use Rattle.nodes.specs.declared.exprs.Part.{Part}
 use Rattle.nodes.specs.declared.exprs.Filter.{Filter}
+use Rattle.nodes.specs.declared.exprs.Expr.{Expr}
 use Rattle.nodes.specs.Exprs.{Pool}
 use Rattle.nodes.specs.Wider.{Front, Wider}
 use Rattle.arguments.specs.declared.reader.CycleName as code
@@ -19,9 +20,16 @@ use Rattle.arguments.specs.Refusals.{number_of}
 abbrev pub part_in : List ℕ → Part → List ℕ
 part_in source p = cut source p.place p.len
 
+-- a cycle name given in a tag, and one made of its values
+abbrev pub given_name : List ℕ → CycleName
+given_name b = record { given = true; bytes = b }
+
+abbrev pub made_name : List ℕ → CycleName
+made_name b = record { given = false; bytes = b }
+
 abbrev pub cycle_of : code.CycleName → CycleName
-cycle_of (Given b) = record { given = true; bytes = b.items }
-cycle_of (Made b) = record { given = false; bytes = b.items }
+cycle_of (Given b) = given_name b.items
+cycle_of (Made b) = made_name b.items
 
 abbrev pub asked_in : List ℕ → Filter → Asked
 asked_in source f = record { place = f.name.place; name = part_in source f.name }
@@ -46,6 +54,10 @@ pool_of d =
       filters = vec_items d.filters;
     }
 
+-- the same with other values
+abbrev pub with_values : List Expr → Pool → Pool
+with_values xs b = record { source = b.source; names = b.names; cycles = b.cycles; steps = b.steps; values = xs; filters = b.filters }
+
 abbrev pub under : Reader → State
 under d = state (ahead d.cursor) (lists_of d)
 
@@ -59,15 +71,16 @@ abbrev pub Said : {A B : Type 0} → Result A Stop → Verdict B → (A → B �
 Said {A} {B} (Ok x) v D s = (y : B) × D x y × (v ≡ passes y s)
 Said (Err e) v D s = Refuses e v
 
--- The tables have only grown, and the nodes and the mark are the same.
+-- The tables have only grown, and the values, the nodes and the mark are the same.
 pub record Grown (d e : Reader) : Type 0 where
   pub pool : Wider (pool_of d) (pool_of e)
   pub names : Front (vec_items d.names) (vec_items e.names)
   pub cycles : Front (vec_items d.cycles) (vec_items e.cycles)
+  pub values : vec_items e.values ≡ vec_items d.values
   pub nodes : vec_items e.nodes ≡ vec_items d.nodes
   pub mark : e.mark ≡ d.mark
 
--- The tables have only grown, the nodes too, and the mark is the same.
+-- The tables have only grown, the values and the nodes too, and the mark is the same.
 pub record Longer (d e : Reader) : Type 0 where
   pub pool : Wider (pool_of d) (pool_of e)
   pub names : Front (vec_items d.names) (vec_items e.names)

@@ -20,7 +20,7 @@ loop-step-preserved c =
     let items : vec_items c.push.new.self ≡ vec_items m.steps ++ (c.step_of.result ∷ []) = c.in_ok-push.ensures.items in
     pushing_more d m _ ss s (steps_left c.loop-step.walk) (steps_left c.next.new.self) c.in-Some.ensures keys p room
     (items ∙ ap (λ x. vec_items m.steps ++ (x ∷ [])) c.step_of.ensures)
-    (record { pool = record { source = refl; names = omega arith; cycles = omega arith; steps = record { more = c.step_of.result ∷ []; is = items }; values = front_refl _; filters = front_refl _ }; names = front_refl _; cycles = front_refl _; nodes = refl; mark = refl })
+    (record { pool = record { source = refl; names = omega arith; cycles = omega arith; steps = record { more = c.step_of.result ∷ []; is = items }; values = front_refl _; filters = front_refl _ }; names = front_refl _; cycles = front_refl _; values = refl; nodes = refl; mark = refl })
     refl
 
 pub returns-clause-did : goal.returns-clause-did

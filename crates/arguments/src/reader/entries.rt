@@ -1,0 +1,58 @@
+// Nodes and values that enter the tables, and room for nodes.
+ghost use Rattle.std.specs.Prelude.{◌≡◌, [], ◌∷◌, ◌++◌, OnOk, vec_items};
+ghost use Rattle.arguments.specs.Judging.{pure, room_at, one_more, seen};
+ghost use Rattle.arguments.specs.Values.{read, is_value};
+ghost use Rattle.arguments.specs.Tables.{pool_of, with_values, under, Said, Longer, Is};
+
+use crate::reader::Reader;
+use crate::refusals::{Refusal, Stop};
+use cutter::tokens::{Token, Word};
+use nodes::exprs::Expr;
+use nodes::table::Node;
+
+// How many nodes a sheet may have.
+const NODES: usize = 4096;
+
+/// Whether a token may be a value, whatever else is wrong with it.
+pub fn is_value(word: Word) -> bool
+    ensures { result ≡ is_value (read (seen word.entry.place word.entry.bytes.now)) }
+{
+    !matches!(word.token(), Token::Range(_, _) | Token::Symbol(_))
+}
+
+impl Reader<'_> {
+    /// There is room for one node more, for what stands at `place`.
+    #[tactic(auto, unfolding(crate::specs::Judging::room_at))]
+    pub fn room(&self, place: usize) -> Result<(), Stop>
+        ensures { Said result (room_at place (under self.now)) Is (under self.now) }
+    {
+        if self.nodes.len() >= NODES {
+            return Err(Stop::Refused(Refusal::Limit, place));
+        }
+        Ok(())
+    }
+
+    /// One node more, for which there is room.
+    #[tactic(auto, unfolding(crate::specs::Judging::one_more))]
+    pub fn push_node(&mut self, node: Node) -> Result<(), Stop>
+        ensures says { Said result (one_more (under self.old)) Is (under self.new) }
+        ensures pushed { OnOk result (vec_items self.new.nodes ≡ vec_items self.old.nodes ++ node ∷ []) }
+        ensures pool { pool_of self.new ≡ pool_of self.old }
+        ensures longer { Longer self.old self.new }
+    {
+        self.nodes.push(node)?;
+        Ok(())
+    }
+
+    /// One value more.
+    pub fn push_value(&mut self, value: Expr) -> Result<(), Stop>
+        ensures says { Said result (pure tt (under self.old)) Is (under self.new) }
+        ensures pushed { OnOk result (vec_items self.new.values ≡ vec_items self.old.values ++ value ∷ []) }
+        ensures pool { pool_of self.new ≡ with_values (vec_items self.new.values) (pool_of self.old) }
+        ensures nodes { vec_items self.new.nodes ≡ vec_items self.old.nodes }
+        ensures longer { Longer self.old self.new }
+    {
+        self.values.push(value)?;
+        Ok(())
+    }
+}
