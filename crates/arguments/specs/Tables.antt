@@ -6,6 +6,7 @@ use Rattle.cutter.specs.declared.places.Placed.{Placed}
 use Rattle.nodes.specs.declared.exprs.Part.{Part}
 use Rattle.nodes.specs.declared.exprs.Filter.{Filter}
 use Rattle.nodes.specs.declared.exprs.Expr.{Expr}
+use Rattle.nodes.specs.declared.table.Node.{Node}
 use Rattle.nodes.specs.Exprs.{Pool}
 use Rattle.nodes.specs.Wider.{Front, Wider}
 use Rattle.arguments.specs.declared.reader.CycleName as code
@@ -86,6 +87,15 @@ pub record Longer (d e : Reader) : Type 0 where
   pub names : Front (vec_items d.names) (vec_items e.names)
   pub cycles : Front (vec_items d.cycles) (vec_items e.cycles)
   pub nodes : Front (vec_items d.nodes) (vec_items e.nodes)
+  pub mark : e.mark ≡ d.mark
+
+-- The nodes are these, and nothing else has changed.
+pub record Sets (d e : Reader) (ns : List Node) : Type 0 where
+  pub nodes : vec_items e.nodes ≡ ns
+  pub pool : pool_of e ≡ pool_of d
+  pub names : vec_items e.names ≡ vec_items d.names
+  pub cycles : vec_items e.cycles ≡ vec_items d.cycles
+  pub cursor : e.cursor ≡ d.cursor
   pub mark : e.mark ≡ d.mark
 
 -- bytes that stand in the source at a place

@@ -191,13 +191,14 @@ module _ (b c : Pool) (w : Wider b c) where
         (λ n. keeps_so (test_of b n) (test_of c n) _ _ (keeps_test n)
         (λ x. joins k l i e (keeps_condition k l (omega arith)) h x (eqb (i + 1) e)))) y q
 
-    keeps_guard : (i e : ℕ) (a : Arm) (g : Guard) → a.body ≤ e → Agree ns ms i e → Keeps (guard_of b ns i a g) (guard_of c ms i a g)
+    -- a guard reads no node but those behind the arm's
+    pub keeps_guard : (i e : ℕ) (a : Arm) (g : Guard) → a.body ≤ e → Agree ns ms (i + 1) e → Keeps (guard_of b ns i a g) (guard_of c ms i a g)
     keeps_guard i e a Holds le h y q =
         keeps_mapped _ (condition_of b ns a.body (i + 1) a.body) (condition_of c ms a.body (i + 1) a.body)
-        (keeps_condition a.body a.body (omega arith) (i + 1) a.body (λ m x z. h m (omega arith) (omega arith))) y q
+        (keeps_condition a.body a.body (omega arith) (i + 1) a.body (λ m x z. h m x (omega arith))) y q
     keeps_guard i e a Fails le h y q =
         keeps_mapped _ (condition_of b ns a.body (i + 1) a.body) (condition_of c ms a.body (i + 1) a.body)
-        (keeps_condition a.body a.body (omega arith) (i + 1) a.body (λ m x z. h m (omega arith) (omega arith))) y q
+        (keeps_condition a.body a.body (omega arith) (i + 1) a.body (λ m x z. h m x (omega arith))) y q
     keeps_guard i e a (Equals s) le h y q =
         keeps_where (eqb (i + 1) a.body) _ _ (λ t. keeps_mapped _ (values_of b s) (values_of c s) (keeps_values s)) y q
     keeps_guard i e a HasItems le h y q = q
@@ -221,7 +222,7 @@ module _ (b c : Pool) (w : Wider b c) where
           let f0 = ltb-true i a.body t0 in
           let f2 = leb-true a.body a.next t2 in
           let f3 = leb-true a.next e t3 in
-          keeps_so (guard_of b ns i a a.guard) (guard_of c ms i a a.guard) _ _ (keeps_guard i e a a.guard (omega arith) h)
+          keeps_so (guard_of b ns i a a.guard) (guard_of c ms i a a.guard) _ _ (keeps_guard i e a a.guard (omega arith) (λ m x z. h m (omega arith) z))
           (λ g. keeps_so (elements_of b ns k room a.body a.next) (elements_of c ms l room a.body a.next) _ _
           (elements room a.body a.next (λ m x z. h m (omega arith) (omega arith)))
           (λ body. keeps_so (arms_of b ns k a.then room a.next e) (arms_of c ms l a.then room a.next e) _ _

@@ -1,10 +1,11 @@
 -- What the parser's functions answer.
-use Rattle.std.specs.Prelude.{◌≡◌, ℕ, suc, ◌<◌, ◌≤◌, List, length, Some, None, Ok, Err, vec_items, Option, Result}
+use Rattle.std.specs.Prelude.{◌≡◌, ℕ, suc, ◌+◌, ◌-◌, ◌<◌, ◌≤◌, List, length, Some, None, Ok, Err, vec_items, Option, Result}
 use Rattle.std.specs.Option.{option_map}
 use Rattle.cutter.specs.Ahead.{ahead}
 use Rattle.cutter.specs.Cuts.{Cut, done as no_pieces, unclosed, text, mark}
 use Rattle.cutter.specs.Left.{left}
 use Rattle.cutter.specs.declared.places.Placed.{Placed}
+use Rattle.cutter.specs.declared.state.Kind.{Kind}
 use Rattle.cutter.specs.declared.pieces.Piece.{Piece}
 use Rattle.cutter.specs.declared.pieces.Piece.TheVariants.{Text, Mark}
 use Rattle.tree.specs.Elements.{Tree, leaf, block, Arms, arm}
@@ -13,7 +14,8 @@ use Rattle.nodes.specs.declared.table.Next.{Next}
 use Rattle.nodes.specs.declared.table.Arm.{Arm}
 use Rattle.nodes.specs.declared.table.Guard.{Guard}
 use Rattle.nodes.specs.declared.table.Node.{Node}
-use Rattle.nodes.specs.Exprs.{Pool}
+use Rattle.nodes.specs.Exprs.{Pool, expr_of}
+use Rattle.nodes.specs.Trees.{block_of, guard_of}
 use Rattle.nodes.specs.Wider.{Wider, Front}
 use Rattle.nodes.specs.Built.{Body, ArmsIn, Leads}
 use Rattle.arguments.specs.declared.refusals.Stop.{Stop}
@@ -25,9 +27,13 @@ use Rattle.arguments.specs.Marks.{inside}
 use Rattle.arguments.specs.Tables.{pool_of, lists_of, Lies}
 use Rattle.sheet.specs.declared.parser.Parser.{Parser}
 use Rattle.sheet.specs.declared.names.Block as code
+use Rattle.sheet.specs.declared.blocks.Opened as code_opened
+use Rattle.sheet.specs.declared.blocks.Opened.TheVariants as opened
+use Rattle.sheet.specs.declared.blocks.Following as code_following
+use Rattle.sheet.specs.declared.blocks.Following.TheVariants as following
 use Rattle.sheet.specs.Steps.{Outcome, fails, gives, Step, pieces}
 use Rattle.sheet.specs.Blocks.{Tag, tag, Opened, with_arm, a_case, Following, the_end, an_else, an_arm}
-use Rattle.sheet.specs.Parsing.{Found, a_leaf, a_block, other, Elements, Inner, elements, inner}
+use Rattle.sheet.specs.Parsing.{Found, a_leaf, a_block, other, Elements, Inner, a_text, marked, a_tag, a_mark, elements, inner, arm_of, block_at, rests}
 
 abbrev pub source_of : Parser → List ℕ
 source_of p = p.reader.source.now
@@ -83,7 +89,7 @@ abbrev pub Takes : Parser → Result (Option Piece) Stop → Parser → Type 0
 Takes p (Ok None) q = (cut_of p ≡ no_pieces) × (cut_of q ≡ no_pieces)
 Takes p (Ok (Some (Text t))) q = (cut_of p ≡ text t.place t.bytes.now (cut_of q)) × Lies (source_of p) t.place t.bytes.now
 Takes p (Ok (Some (Mark k m))) q = cut_of p ≡ mark k m.place m.bytes.now (cut_of q)
-Takes p (Err (Refused k place)) q = (cut_of p ≡ unclosed place) × (k ≡ Unclosed)
+Takes p (Err (Refused k place)) q = (cut_of p ≡ unclosed place) × (k ≡ Unclosed) × (cut_of q ≡ cut_of p)
 Takes p (Err Memory) q = ⊥
 
 -- the nodes that were pushed are the elements
@@ -108,6 +114,93 @@ Finds room p q (Some w) (a_leaf at x) = ⊥
 Finds room p q (Some w) (a_block at x a) = ⊥
 Finds room p q (Some w) (other t) = (t ≡ tag_in q w) × (nodes_of q ≡ nodes_of p)
 
+-- an element without elements
+abbrev pub Leafs : Parser → Parser → Prim.Unit {0} → Found → Type 0
+Leafs p q u y = (room : ℕ) → Finds room p q None y
+
+-- an element, or a tag that begins none, for a piece that was taken
+abbrev pub found : List ℕ → ℕ → ℕ → ℕ → Piece → Step Found
+found source end n room (Text t) = a_text t.place t.bytes.now
+found source end n room (Mark k m) =
+    a_mark end room (elements source end n (room - 1)) (λ b t. rests source end n (room - 1) b t) m.place k (inside source m.place m.bytes.now)
+
+abbrev pub ElementRead : ℕ → Piece → Parser → Result (Option Placed) Stop → Parser → Type 0
+ElementRead room piece p r q = (n : ℕ) → pieces (cut_of p) < n → Did r (taken (found (source_of p) p.end n room piece) p) (Finds room p q) q
+
+-- a text that is taken stands in the source
+abbrev pub StandsIn : List ℕ → Piece → Type 0
+StandsIn source (Text t) = Lies source t.place t.bytes.now
+StandsIn source (Mark k m) = Prim.Unit {0}
+
+-- a mark that is begun
+abbrev pub MarkRead : ℕ → Kind → Parser → Result (Option Placed) Stop → Parser → Type 0
+MarkRead room k p r q =
+    (n : ℕ) → pieces (cut_of p) < n →
+    Did r (taken (marked p.end room (elements (source_of p) p.end n (room - 1)) (λ b t. rests (source_of p) p.end n (room - 1) b t) p.reader.mark k (ahead p.reader.cursor)) p)
+    (Finds room p q) q
+
+abbrev pub TagRead : ℕ → Parser → Result (Option Placed) Stop → Parser → Type 0
+TagRead room p r q =
+    (n : ℕ) → pieces (cut_of p) < n →
+    Did r (taken (a_tag p.end room (elements (source_of p) p.end n (room - 1)) (λ b t. rests (source_of p) p.end n (room - 1) b t) p.reader.mark (ahead p.reader.cursor)) p)
+    (Finds room p q) q
+
+abbrev pub BlockRead : ℕ → code.Block → Parser → Result (Prim.Unit {0}) Stop → Parser → Type 0
+BlockRead room b p r q =
+    (n : ℕ) → pieces (cut_of p) < n →
+    Did r (taken (block_at p.end (elements (source_of p) p.end n (room - 1)) room p.reader.mark (λ c t. rests (source_of p) p.end n (room - 1) c t) b (ahead p.reader.cursor)) p)
+    (λ u y. Finds room p q None y) q
+
+-- what decides about an arm whose node is at this place, and whose elements begin at `body`
+abbrev pub GuardIn : Pool → List Node → ℕ → ℕ → Guard → tree.Guard → Type 0
+GuardIn b ns at body g h = (a : Arm) → a.body ≡ body → guard_of b ns at a g ≡ Some h
+
+-- an arm whose elements begin where the nodes ended, and those behind it
+pub record Arming (room : ℕ) (g : Guard) (h : tree.Guard) (p q : Parser) (a : Arm) (y : Arms) : Type 0 where
+  pub body : Tree
+  pub rest : Arms
+  pub is : y ≡ arm h body rest
+  pub guard : a.guard ≡ g
+  pub from : a.body ≡ count p
+  pub order : a.body ≤ a.next
+  pub to : a.next ≤ count q
+  pub elements : Body (pool_of q.reader) (nodes_of q) room a.body a.next body
+  pub arms : ArmsIn (pool_of q.reader) (nodes_of q) a.then room a.next (count q) rest
+
+abbrev pub ArmRead : ℕ → code.Block → Guard → Parser → Result Arm Stop → Parser → Type 0
+ArmRead room b g p r q =
+    (n : ℕ) (h : tree.Guard) → pieces (cut_of p) < n →
+    Did r (taken (arm_of p.end (elements (source_of p) p.end n room) h (λ t. rests (source_of p) p.end n room b t)) p) (Arming room g h p q) q
+
 -- the nodes that were pushed are the arms
 abbrev pub Armed : ℕ → Parser → Parser → Next → Arms → Type 0
 Armed room p q x y = ArmsIn (pool_of q.reader) (nodes_of q) x room (count p) (count q) y
+
+abbrev pub RestRead : ℕ → code.Block → Placed → Parser → Result Next Stop → Parser → Type 0
+RestRead room b w p r q =
+    (n : ℕ) → suc (pieces (cut_of p)) < n → Did r (taken (rests (source_of p) p.end n room b (tag_in p w)) p) (Armed room p q) q
+
+-- a block that opens: the node at its place is set when it is whole
+abbrev pub Opens : Parser → Parser → code_opened.Opened → Opened → Type 0
+Opens p q (opened.Arm k g) (with_arm x y) =
+    (block_of (pool_of q.reader) k ≡ Some x) × (count p < count q) × GuardIn (pool_of q.reader) (nodes_of q) (count p) (count q) g y
+Opens p q (opened.Arm k g) (a_case y) = ⊥
+Opens p q (opened.Case e) (with_arm x y) = ⊥
+Opens p q (opened.Case e) (a_case y) = (expr_of (pool_of q.reader) e ≡ Some y) × (count q ≡ count p + 1)
+
+-- what follows: an arm opens like a block
+abbrev pub Follows : Parser → Parser → code_following.Following → Following → Type 0
+Follows p q following.End the_end = nodes_of q ≡ nodes_of p
+Follows p q following.End an_else = ⊥
+Follows p q following.End (an_arm y) = ⊥
+Follows p q following.Else the_end = ⊥
+Follows p q following.Else an_else = nodes_of q ≡ nodes_of p
+Follows p q following.Else (an_arm y) = ⊥
+Follows p q (following.Arm g) the_end = ⊥
+Follows p q (following.Arm g) an_else = ⊥
+Follows p q (following.Arm g) (an_arm y) =
+    (count p < count q) × GuardIn (pool_of q.reader) (nodes_of q) (count p) (count q) g y
+
+-- the nodes are the same
+abbrev pub Same : Parser → Parser → Prim.Unit {0} → Prim.Unit {0} → Type 0
+Same p q u y = nodes_of q ≡ nodes_of p

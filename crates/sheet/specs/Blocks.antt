@@ -111,13 +111,17 @@ ended = finished next λ _. pure the_end
 abbrev pub unknown : {A : Type 0} → Tag → Judge A
 unknown t = refuse 5 t.name.place
 
+-- the end tag
+abbrev pub closed : Tag → Closer → Judge (Prim.Unit {0})
+closed t closing.End = finished
+closed t closing.Else = unknown t
+closed t closing.Elsif = unknown t
+closed t closing.When = unknown t
+closed t closing.Other = unknown t
+
 -- nothing but the end tag
 abbrev pub only_end : Tag → Closer → Judge Following
-only_end t closing.End = ended
-only_end t closing.Else = unknown t
-only_end t closing.Elsif = unknown t
-only_end t closing.When = unknown t
-only_end t closing.Other = unknown t
+only_end t c = closed t c next λ _. pure the_end
 
 -- `if` and `unless`: `elsif`, `else`, whose arguments do not matter, or the end tag
 abbrev pub in_if : Tag → Closer → Judge Following
@@ -157,5 +161,5 @@ unfoldable pub follows : code.Block → Tag → Judge Following
 follows b t = following b t (closer (end_tag b) t.name.bytes)
 
 -- the tag that ends a block, behind its `else`
-unfoldable pub closes : code.Block → Tag → Judge Following
-closes b t = only_end t (closer (end_tag b) t.name.bytes)
+unfoldable pub closes : code.Block → Tag → Judge (Prim.Unit {0})
+closes b t = closed t (closer (end_tag b) t.name.bytes)

@@ -2,6 +2,10 @@
 
 #![tactic(auto)]
 
+mod blocks;
+mod elements;
+mod leaves;
 mod names;
 mod parser;
 mod pieces;
+mod table;

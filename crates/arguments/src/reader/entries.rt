@@ -1,8 +1,8 @@
 // Nodes and values that enter the tables, and room for nodes.
-ghost use Rattle.std.specs.Prelude.{◌≡◌, [], ◌∷◌, ◌++◌, OnOk, vec_items};
+ghost use Rattle.std.specs.Prelude.{◌≡◌, [], ◌∷◌, ◌++◌, take, slice_set, OnOk, vec_items};
 ghost use Rattle.arguments.specs.Judging.{pure, room_at, one_more, seen};
 ghost use Rattle.arguments.specs.Values.{read, is_value};
-ghost use Rattle.arguments.specs.Tables.{pool_of, with_values, under, Said, Longer, Is};
+ghost use Rattle.arguments.specs.Tables.{pool_of, with_values, under, Said, Longer, Sets, Is};
 
 use crate::reader::Reader;
 use crate::refusals::{Refusal, Stop};
@@ -54,5 +54,21 @@ impl Reader<'_> {
     {
         self.values.push(value)?;
         Ok(())
+    }
+
+    /// Sets the node at `at`, if there is one.
+    pub fn set_node(&mut self, at: usize, node: Node)
+        ensures { Sets self.old self.new (slice_set (vec_items self.old.nodes) at node) }
+    {
+        if let Some(place) = self.nodes.get_mut(at) {
+            *place = node;
+        }
+    }
+
+    /// Drops the nodes from `count` on.
+    pub fn drop_nodes(&mut self, count: usize)
+        ensures { Sets self.old self.new (take count (vec_items self.old.nodes)) }
+    {
+        self.nodes.truncate(count);
     }
 }
