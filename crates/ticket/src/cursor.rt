@@ -22,6 +22,7 @@ impl<'a> Cursor<'a> {
         }
     }
 
+    // The place of the next byte.
     pub(crate) fn at(&self) -> Place {
         Place {
             line: self.line,

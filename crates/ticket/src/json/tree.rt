@@ -48,7 +48,7 @@ impl Json {
     }
 }
 
-#[derive(Clone, Copy, PartialEq, Eq)]
+#[derive(Clone, Copy, PartialEq)]
 pub(crate) enum Holder {
     Array,
     Object,
@@ -90,7 +90,7 @@ pub(crate) enum Token {
 }
 
 // What may come next.
-#[derive(Clone, Copy, PartialEq, Eq)]
+#[derive(Clone, Copy, PartialEq)]
 pub(crate) enum Want {
     Value,
     ItemOrEnd,
