@@ -1,26 +1,33 @@
-//! A place in a text of bytes.
+//! A place in a line of a job.
 
 ghost use Rattle.std.specs.Prelude.{◌≡◌, ◌+◌, ◌-◌, ◌≤◌, length, is_some, nat_lt};
 
-// What is left of a text, and how long the whole is.
+use crate::faults::{Fault, JobError, Place};
+
+// What is left of a line, how long the whole is, and the number of the line.
 #[derive(Drop)]
 pub(crate) struct Cursor<'a> {
     rest: &'a [u8],
     whole: usize,
+    line: usize,
     ghost within: { length rest.now ≤ whole },
 }
 
 impl<'a> Cursor<'a> {
-    pub(crate) fn new(src: &'a [u8]) -> Cursor<'a> {
+    pub(crate) fn new(line: usize, src: &'a [u8]) -> Cursor<'a> {
         Cursor {
             rest: src,
             whole: src.len(),
+            line,
         }
     }
 
-    // How many bytes were taken.
-    pub(crate) fn at(&self) -> usize {
-        self.whole - self.rest.len()
+    // The place of the next byte.
+    pub(crate) fn at(&self) -> Place {
+        Place {
+            line: self.line,
+            before: self.whole - self.rest.len(),
+        }
     }
 
     pub(crate) fn rest(&self) -> &'a [u8]
@@ -88,6 +95,15 @@ impl<'a> Cursor<'a> {
         ensures { length self.new.rest.now ≤ length self.old.rest.now }
     {
         self.take_while(is_blank);
+    }
+
+    // A fault where anything but blanks is left.
+    pub(crate) fn end(mut self) -> Result<(), JobError> {
+        self.skip_blanks();
+        match self.peek() {
+            None => Ok(()),
+            Some(_) => Err(self.at().bad(Fault::LeftOver)),
+        }
     }
 
     // Takes the bytes up to the next blank or the end.

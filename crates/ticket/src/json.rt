@@ -2,31 +2,27 @@
 // A reader of its own, and not the crate `serde_json`: each fault is printed with its own words and its place.
 
 use crate::cursor::Cursor;
-use crate::json::errors::{Fault, JsonError};
+use crate::faults::{Fault, JobError};
 use crate::json::tree::{Json, Tree, Want};
 use std::alloc::Global;
 
-pub(crate) mod errors;
 pub(crate) mod tokens;
 pub(crate) mod tree;
 
 // The object ahead, with nothing but blanks around it.
-pub(crate) fn read(heap: Global, mut cursor: Cursor<'_>) -> Result<Json, JsonError> {
+pub(crate) fn read(heap: Global, mut cursor: Cursor<'_>) -> Result<Json, JobError> {
     cursor.skip_blanks();
     let at = cursor.at();
     let json = read_value(heap, &mut cursor)?;
     if !json.is_object() {
-        return Err(JsonError::Bad(at, Fault::NotObject));
+        return Err(at.bad(Fault::NotObject));
     }
-    cursor.skip_blanks();
-    if cursor.peek().is_some() {
-        return Err(JsonError::Bad(cursor.at(), Fault::LeftOver));
-    }
+    cursor.end()?;
     Ok(json)
 }
 
 // The value ahead.
-pub(crate) fn read_value(heap: Global, cursor: &mut Cursor<'_>) -> Result<Json, JsonError> {
+pub(crate) fn read_value(heap: Global, cursor: &mut Cursor<'_>) -> Result<Json, JobError> {
     let mut texts = Vec::new(heap);
     let mut tree = Tree::new(heap);
     let mut want = Want::Value;

@@ -1,12 +1,14 @@
 //! JSON laid out as the records of a tray, breadth first: the parts of a holder stand in one block behind it.
 
+ghost use Rattle.std.specs.Prelude.{◌≤◌};
+
 use crate::json::tree::{Json, Kind, Node};
 use std::alloc::{AllocError, Global};
 use thiserror::Error;
 use tray::records::{Record, Span};
 
 // What a record cannot say: each of its numbers has two bytes.
-#[derive(Clone, Copy, Debug, PartialEq, Eq, Error)]
+#[derive(Clone, Copy, Debug, Error)]
 pub(crate) enum Unsaid {
     #[error("a text begins past byte 65,535 of the tray text")]
     Place,
@@ -18,7 +20,7 @@ pub(crate) enum Unsaid {
     Count,
 }
 
-#[derive(Clone, Copy, Debug, PartialEq, Eq, Error)]
+#[derive(Clone, Copy, Debug, Error)]
 pub(crate) enum LayoutError {
     #[error("no memory")]
     Memory(#[from(alloc)] AllocError),
@@ -45,7 +47,6 @@ pub(crate) fn lay_out(heap: Global, json: &Json) -> Result<Vec<Record>, LayoutEr
 
 // The record of the node `at`, whose parts join the end of `order`.
 fn lay_one(nodes: &[Node], at: usize, order: &mut Vec<usize>) -> Result<Record, LayoutError> {
-    let first = order.len();
     let Some(node) = nodes.get(at) else {
         return Ok(Record::Nil);
     };
@@ -57,23 +58,32 @@ fn lay_one(nodes: &[Node], at: usize, order: &mut Vec<usize>) -> Result<Record, 
             first: short(part.place, Unsaid::Place)?,
             count: short(part.len, Unsaid::Length)?,
         })),
-        Kind::Array(n) => {
-            let count = short(n, Unsaid::Count)?;
-            join_parts(nodes, at, count as usize, order)?;
-            let first = short(first, Unsaid::First)?;
-            Ok(Record::Array(Span { first, count }))
-        }
-        Kind::Object(n) => {
-            let count = short(n, Unsaid::Count)?;
-            join_parts(nodes, at, 2 * count as usize, order)?;
-            let first = short(first, Unsaid::First)?;
-            Ok(Record::Object(Span { first, count }))
-        }
+        Kind::Array(n) => Ok(Record::Array(lay_parts(nodes, at, n, 1, order)?)),
+        Kind::Object(n) => Ok(Record::Object(lay_parts(nodes, at, n, 2, order)?)),
     }
 }
 
+// The span of a holder's parts, of which each item or entry has `each`.
+fn lay_parts(
+    nodes: &[Node],
+    at: usize,
+    n: usize,
+    each: usize,
+    order: &mut Vec<usize>,
+) -> Result<Span, LayoutError>
+    requires { each ≤ 2 }
+{
+    let first = order.len();
+    let count = short(n, Unsaid::Count)?;
+    join_parts(nodes, at, each * count as usize, order)?;
+    Ok(Span {
+        first: short(first, Unsaid::First)?,
+        count,
+    })
+}
+
 fn short(n: usize, what: Unsaid) -> Result<u16, LayoutError> {
-    u16::try_from(n).map_err(|_| LayoutError::Unsaid(what))
+    u16::try_from(n).or(Err(LayoutError::Unsaid(what)))
 }
 
 // The first `width` parts of the holder `at` join the end of `order`.
@@ -82,7 +92,7 @@ fn join_parts(
     at: usize,
     width: usize,
     order: &mut Vec<usize>,
-) -> Result<(), LayoutError> {
+) -> Result<(), AllocError> {
     let mut part = at.saturating_add(1);
     for _ in 0..width {
         order.push(part)?;

@@ -3,6 +3,7 @@
 #![tactic(auto)]
 
 mod cursor;
+mod faults;
 mod filter;
 mod job;
 mod json;

@@ -1,17 +1,17 @@
 //! The nodes of a JSON text, in the order of its text, and how tokens become nodes.
 
-use crate::json::errors::{Fault, JsonError};
+use crate::faults::{Fault, JobError, Place};
 use std::alloc::Global;
 
 // A part of a buffer of texts, where the one of `nodes` is a part of a template.
-#[derive(Clone, Copy, Debug, PartialEq, Eq)]
+#[derive(Clone, Copy)]
 pub(crate) struct Part {
     pub(crate) place: usize,
     pub(crate) len: usize,
 }
 
 // A value. A text is a part of a side buffer. A holder tells its number of items or entries.
-#[derive(Clone, Copy, Debug, PartialEq, Eq)]
+#[derive(Clone, Copy)]
 pub(crate) enum Kind {
     Nil,
     Flag(bool),
@@ -22,7 +22,7 @@ pub(crate) enum Kind {
 }
 
 // A value, and the number of the first node behind it and all that it holds.
-#[derive(Clone, Copy, Debug, PartialEq, Eq)]
+#[derive(Clone, Copy)]
 pub(crate) struct Node {
     pub(crate) kind: Kind,
     pub(crate) next: usize,
@@ -48,7 +48,7 @@ impl Json {
     }
 }
 
-#[derive(Clone, Copy, Debug, PartialEq, Eq)]
+#[derive(Clone, Copy, PartialEq)]
 pub(crate) enum Holder {
     Array,
     Object,
@@ -80,7 +80,7 @@ impl Holder {
     }
 }
 
-#[derive(Clone, Copy, Debug, PartialEq, Eq)]
+#[derive(Clone, Copy)]
 pub(crate) enum Token {
     Open(Holder),
     Close(Holder),
@@ -90,7 +90,7 @@ pub(crate) enum Token {
 }
 
 // What may come next.
-#[derive(Clone, Copy, Debug, PartialEq, Eq)]
+#[derive(Clone, Copy, PartialEq)]
 pub(crate) enum Want {
     Value,
     ItemOrEnd,
@@ -115,7 +115,7 @@ impl Want {
 }
 
 // An array or object that is not closed yet: its node, and how many items or entries it has so far.
-#[derive(Clone, Copy, Debug, PartialEq, Eq)]
+#[derive(Clone, Copy)]
 struct Open {
     node: usize,
     holder: Holder,
@@ -143,7 +143,7 @@ impl Tree {
     }
 
     // Takes the token at the place `at`, and tells what may come next.
-    pub(crate) fn place(&mut self, at: usize, want: Want, token: Token) -> Result<Want, JsonError> {
+    pub(crate) fn place(&mut self, at: Place, want: Want, token: Token) -> Result<Want, JobError> {
         match (want, token) {
             (Want::Value | Want::ItemOrEnd, Token::Open(holder)) => self.begin(holder),
             (Want::Value | Want::ItemOrEnd, Token::Leaf(kind)) => self.leaf(kind),
@@ -160,11 +160,11 @@ impl Tree {
                 want,
                 Holder::Object,
             ),
-            _ => Err(JsonError::Bad(at, want.fault())),
+            _ => Err(at.bad(want.fault())),
         }
     }
 
-    fn push(&mut self, kind: Kind) -> Result<usize, JsonError> {
+    fn push(&mut self, kind: Kind) -> Result<usize, JobError> {
         let node = self.nodes.len();
         self.nodes.push(Node {
             kind,
@@ -173,7 +173,7 @@ impl Tree {
         Ok(node)
     }
 
-    fn begin(&mut self, holder: Holder) -> Result<Want, JsonError> {
+    fn begin(&mut self, holder: Holder) -> Result<Want, JobError> {
         let node = self.push(holder.of(0))?;
         self.open.push(Open {
             node,
@@ -183,12 +183,12 @@ impl Tree {
         Ok(holder.inside())
     }
 
-    fn leaf(&mut self, kind: Kind) -> Result<Want, JsonError> {
+    fn leaf(&mut self, kind: Kind) -> Result<Want, JobError> {
         self.push(kind)?;
         Ok(self.counted())
     }
 
-    fn key(&mut self, key: Part) -> Result<Want, JsonError> {
+    fn key(&mut self, key: Part) -> Result<Want, JobError> {
         self.push(Kind::Text(key))?;
         Ok(Want::Colon)
     }
@@ -211,12 +211,11 @@ impl Tree {
         }
     }
 
-    fn close(&mut self, at: usize, want: Want, holder: Holder) -> Result<Want, JsonError> {
-        let open = self
-            .open
-            .pop()
-            .filter(|open| open.holder == holder)
-            .ok_or(JsonError::Bad(at, want.fault()))?;
+    fn close(&mut self, at: Place, want: Want, holder: Holder) -> Result<Want, JobError> {
+        let open = match self.open.pop() {
+            Some(open) if open.holder == holder => open,
+            _ => return Err(at.bad(want.fault())),
+        };
         let next = self.nodes.len();
         if let Some(node) = self.nodes.get_mut(open.node) {
             *node = Node {
