@@ -90,36 +90,36 @@ tag-returns-in_err-name-clause-says t c =
     did_err c.from_residual.result _ _ _ c.in_err-name.field-0.0 c.from_residual.ensures.1
     (tag_refused c.args.room c.args.self.now c.tag_name.new.self c.tag_name.ensures.cutter c.tag_name.ensures.end c.in_err-name.field-0.0 c.in_err-name.ensures.says n)
 
-pub tag-returns-in_err-simple-in-Some-Simple-clause-says : goal.tag-returns-in_err-simple-in-Some-Simple-clause-says
-tag-returns-in_err-simple-in-Some-Simple-clause-says t c =
+pub tag-returns-in_err-simple-in-Simple-clause-says : goal.tag-returns-in_err-simple-in-Simple-clause-says
+tag-returns-in_err-simple-in-Simple-clause-says t c =
     λ n h.
-    did_err c.from_residual-in_err-simple-in-Some-Simple.result _ _ _ c.in_err-simple-in-Some-Simple.field-0.0 c.from_residual-in_err-simple-in-Some-Simple.ensures.1
-    (tag_did_not c.args.room c.args.self.now c.tag_name.new.self c.tag_name.ensures.cutter c.tag_name.ensures.end c.in_ok-name.name c.in_ok-name.ensures.says c.tag_name.ensures.grown c.in_err-simple-in-Some-Simple.field-0.0 n (Some (known.Simple c.in-Some-Simple.kind)) (ap Some (sym c.in-Some-Simple.field-0-is) ∙ sym c.in-Some-Simple.is ∙ c.known_as.ensures) _ refl c.in_err-simple-in-Some-Simple.ensures.says)
+    did_err c.from_residual-in_err-simple-in-Simple.result _ _ _ c.in_err-simple-in-Simple.field-0.0 c.from_residual-in_err-simple-in-Simple.ensures.1
+    (tag_did_not c.args.room c.args.self.now c.tag_name.new.self c.tag_name.ensures.cutter c.tag_name.ensures.end c.in_ok-name.name c.in_ok-name.ensures.says c.tag_name.ensures.grown c.in_err-simple-in-Simple.field-0.0 n (Some (known.Simple c.in-Simple.kind)) (ap Some (sym c.in-Simple.is) ∙ sym c.in-Some.is ∙ c.known_as.ensures) _ refl c.in_err-simple-in-Simple.ensures.says)
 
-pub tag-returns-in_err-block-in-Some-Block-clause-says : goal.tag-returns-in_err-block-in-Some-Block-clause-says
-tag-returns-in_err-block-in-Some-Block-clause-says t c =
+pub tag-returns-in_err-block-in-Block-clause-says : goal.tag-returns-in_err-block-in-Block-clause-says
+tag-returns-in_err-block-in-Block-clause-says t c =
     λ n h.
-    did_err c.from_residual-in_err-block-in-Some-Block.result _ _ _ c.in_err-block-in-Some-Block.field-0.0 c.from_residual-in_err-block-in-Some-Block.ensures.1
-    (tag_did_not c.args.room c.args.self.now c.tag_name.new.self c.tag_name.ensures.cutter c.tag_name.ensures.end c.in_ok-name.name c.in_ok-name.ensures.says c.tag_name.ensures.grown c.in_err-block-in-Some-Block.field-0.0 n (Some (known.Block c.in-Some-Block.kind)) (ap Some (sym c.in-Some-Block.field-0-is) ∙ sym c.in-Some-Block.is ∙ c.known_as.ensures) _ refl (c.in_err-block-in-Some-Block.ensures.says n (omega (arith, h, ap (λ x. pieces (left x)) c.tag_name.ensures.cutter))))
+    did_err c.from_residual-in_err-block-in-Block.result _ _ _ c.in_err-block-in-Block.field-0.0 c.from_residual-in_err-block-in-Block.ensures.1
+    (tag_did_not c.args.room c.args.self.now c.tag_name.new.self c.tag_name.ensures.cutter c.tag_name.ensures.end c.in_ok-name.name c.in_ok-name.ensures.says c.tag_name.ensures.grown c.in_err-block-in-Block.field-0.0 n (Some (known.Block c.in-Block.kind)) (ap Some (sym c.in-Block.is) ∙ sym c.in-Some.is ∙ c.known_as.ensures) _ refl (c.in_err-block-in-Block.ensures.says n (omega (arith, h, ap (λ x. pieces (left x)) c.tag_name.ensures.cutter))))
 
-pub tag-returns-in_ok-simple-in-Some-Simple-clause-says : goal.tag-returns-in_ok-simple-in-Some-Simple-clause-says
-tag-returns-in_ok-simple-in-Some-Simple-clause-says t c =
+pub tag-returns-in_ok-simple-in-Simple-clause-says : goal.tag-returns-in_ok-simple-in-Simple-clause-says
+tag-returns-in_ok-simple-in-Simple-clause-says t c =
     λ n h.
-    let (y, d, g) = c.in_ok-simple-in-Some-Simple.ensures.says in
-    tag_did c.args.room c.args.self.now c.tag_name.new.self c.tag_name.ensures.cutter c.tag_name.ensures.end c.in_ok-name.name c.in_ok-name.ensures.says c.tag_name.ensures.grown c.simple.new.self n (Some (known.Simple c.in-Some-Simple.kind)) (ap Some (sym c.in-Some-Simple.field-0-is) ∙ sym c.in-Some-Simple.is ∙ c.known_as.ensures) _ refl (y, d c.args.room, g)
+    let (y, d, g) = c.in_ok-simple-in-Simple.ensures.says in
+    tag_did c.args.room c.args.self.now c.tag_name.new.self c.tag_name.ensures.cutter c.tag_name.ensures.end c.in_ok-name.name c.in_ok-name.ensures.says c.tag_name.ensures.grown c.simple.new.self n (Some (known.Simple c.in-Simple.kind)) (ap Some (sym c.in-Simple.is) ∙ sym c.in-Some.is ∙ c.known_as.ensures) _ refl (y, d c.args.room, g)
 
-pub tag-returns-in_ok-block-in-Some-Block-clause-says : goal.tag-returns-in_ok-block-in-Some-Block-clause-says
-tag-returns-in_ok-block-in-Some-Block-clause-says t c =
-    λ n h. tag_did c.args.room c.args.self.now c.tag_name.new.self c.tag_name.ensures.cutter c.tag_name.ensures.end c.in_ok-name.name c.in_ok-name.ensures.says c.tag_name.ensures.grown c.block.new.self n (Some (known.Block c.in-Some-Block.kind)) (ap Some (sym c.in-Some-Block.field-0-is) ∙ sym c.in-Some-Block.is ∙ c.known_as.ensures) _ refl (c.in_ok-block-in-Some-Block.ensures.says n (omega (arith, h, ap (λ x. pieces (left x)) c.tag_name.ensures.cutter)))
+pub tag-returns-in_ok-block-in-Block-clause-says : goal.tag-returns-in_ok-block-in-Block-clause-says
+tag-returns-in_ok-block-in-Block-clause-says t c =
+    λ n h. tag_did c.args.room c.args.self.now c.tag_name.new.self c.tag_name.ensures.cutter c.tag_name.ensures.end c.in_ok-name.name c.in_ok-name.ensures.says c.tag_name.ensures.grown c.block.new.self n (Some (known.Block c.in-Block.kind)) (ap Some (sym c.in-Block.is) ∙ sym c.in-Some.is ∙ c.known_as.ensures) _ refl (c.in_ok-block-in-Block.ensures.says n (omega (arith, h, ap (λ x. pieces (left x)) c.tag_name.ensures.cutter)))
 
-pub tag-returns-in_err-block-in-Some-Block-clause-went : goal.tag-returns-in_err-block-in-Some-Block-clause-went
-tag-returns-in_err-block-in-Some-Block-clause-went t c = went_then c.args.self.now c.tag_name.new.self c.block.new.self (tag_went c.args.room c.args.self.now c.tag_name.new.self c.tag_name.ensures.cutter c.tag_name.ensures.end c.in_ok-name.name c.in_ok-name.ensures.says c.tag_name.ensures.grown) c.block.ensures.went
+pub tag-returns-in_err-block-in-Block-clause-went : goal.tag-returns-in_err-block-in-Block-clause-went
+tag-returns-in_err-block-in-Block-clause-went t c = went_then c.args.self.now c.tag_name.new.self c.block.new.self (tag_went c.args.room c.args.self.now c.tag_name.new.self c.tag_name.ensures.cutter c.tag_name.ensures.end c.in_ok-name.name c.in_ok-name.ensures.says c.tag_name.ensures.grown) c.block.ensures.went
 
-pub tag-returns-in_ok-block-in-Some-Block-clause-went : goal.tag-returns-in_ok-block-in-Some-Block-clause-went
-tag-returns-in_ok-block-in-Some-Block-clause-went t c = went_then c.args.self.now c.tag_name.new.self c.block.new.self (tag_went c.args.room c.args.self.now c.tag_name.new.self c.tag_name.ensures.cutter c.tag_name.ensures.end c.in_ok-name.name c.in_ok-name.ensures.says c.tag_name.ensures.grown) c.block.ensures.went
+pub tag-returns-in_ok-block-in-Block-clause-went : goal.tag-returns-in_ok-block-in-Block-clause-went
+tag-returns-in_ok-block-in-Block-clause-went t c = went_then c.args.self.now c.tag_name.new.self c.block.new.self (tag_went c.args.room c.args.self.now c.tag_name.new.self c.tag_name.ensures.cutter c.tag_name.ensures.end c.in_ok-name.name c.in_ok-name.ensures.says c.tag_name.ensures.grown) c.block.ensures.went
 
-pub tag-returns-in-None-clause-says : goal.tag-returns-in-None-clause-says
-tag-returns-in-None-clause-says t c = tag_other c.args.room c.args.self.now c.tag_name.new.self c.tag_name.ensures.cutter c.tag_name.ensures.end c.in_ok-name.name c.in_ok-name.ensures.says c.tag_name.ensures.grown (sym c.in-None.is ∙ c.known_as.ensures)
+pub tag-returns-in_default-clause-says : goal.tag-returns-in_default-clause-says
+tag-returns-in_default-clause-says t c = tag_other c.args.room c.args.self.now c.tag_name.new.self c.tag_name.ensures.cutter c.tag_name.ensures.end c.in_ok-name.name c.in_ok-name.ensures.says c.tag_name.ensures.grown (sym c.in_default.is ∙ c.known_as.ensures)
 
 pub block-returns-in_err-block-clause-says : goal.block-returns-in_err-block-clause-says
 block-returns-in_err-block-clause-says t c =
