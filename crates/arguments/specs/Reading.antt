@@ -1,5 +1,5 @@
 -- What was read, as entries of the tables.
-use Rattle.std.specs.Prelude.{◌≡◌, ℕ, true, false, List, [], ◌∷◌, map, length, Some, Ok, Err, vec_items, Result, nat_le}
+use Rattle.std.specs.Prelude.{◌≡◌, ℕ, true, false, cond, List, [], ◌∷◌, map, length, Some, Ok, Err, vec_items, Result, nat_le}
 use Rattle.cutter.specs.Paths.{PlacedStep, at_index, at_key}
 use Rattle.tree.specs.Expressions as tree
 use Rattle.nodes.specs.declared.exprs.Head.{Head}
@@ -12,8 +12,9 @@ use Rattle.nodes.specs.Exprs.{Pool, each, entries, head_of, step_of, expr_of, ro
 use Rattle.arguments.specs.declared.reader.Reader.{Reader}
 use Rattle.arguments.specs.declared.refusals.Stop.{Stop}
 use Rattle.arguments.specs.declared.refusals.Stop.TheVariants.{Refused, Memory}
-use Rattle.arguments.specs.declared.refusals.Refusal.TheVariants.{Limit}
-use Rattle.arguments.specs.Values.{tree_step_of}
+use Rattle.arguments.specs.declared.refusals.Refusal.TheVariants.{Limit, Argument}
+use Rattle.arguments.specs.Judging.{Seen}
+use Rattle.arguments.specs.Values.{tree_step_of, read, is_value}
 use Rattle.arguments.specs.Tables.{pool_of, Lies}
 
 abbrev pub Heads : Pool → Head → tree.Head → Type 0
@@ -51,3 +52,7 @@ Stepped e ss place (Err x) = TooMany ss place x
 abbrev pub entry_of : PlacedStep → Step
 entry_of (at_index z) = Index z
 entry_of (at_key p k) = Key (record { place = p; len = length k })
+
+-- the refusal of one value too many; what is none is refused as such
+abbrev pub one_too_many : Seen → Stop
+one_too_many w = cond (is_value (read w)) (Refused Limit w.place) (Refused Argument w.place)

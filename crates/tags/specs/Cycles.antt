@@ -1,5 +1,5 @@
 -- The values and the name of a `cycle`. `,` is 44, a blank 32.
-use Rattle.std.specs.Prelude.{ℕ, zero, suc, Bool, true, false, cond, List, [], ◌∷◌, ◌++◌, map, Some, None, codes, Option}
+use Rattle.std.specs.Prelude.{ℕ, zero, suc, true, false, cond, List, [], ◌∷◌, ◌++◌, map, Some, None, codes, Option}
 use Rattle.numerals.specs.Decimal.{whole_text}
 use Rattle.cutter.specs.declared.lengths.Symbol.TheVariants.{Colon, Comma}
 use Rattle.cutter.specs.Tokens.{Reading, is_nil, is_boolean, is_number, is_text, is_name, is_path, is_range, is_symbol}

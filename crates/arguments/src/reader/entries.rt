@@ -2,6 +2,7 @@
 ghost use Rattle.std.specs.Prelude.{◌≡◌, [], ◌∷◌, ◌++◌, OnOk, vec_items};
 ghost use Rattle.arguments.specs.Judging.{pure, room_at, one_more, seen};
 ghost use Rattle.arguments.specs.Values.{read, is_value};
+ghost use Rattle.arguments.specs.Reading.{one_too_many};
 ghost use Rattle.arguments.specs.Tables.{pool_of, with_values, under, Said, Longer, Is};
 
 use crate::reader::Reader;
@@ -18,6 +19,18 @@ pub fn is_value(word: Word) -> bool
     ensures { result ≡ is_value (read (seen word.entry.place word.entry.bytes.now)) }
 {
     !matches!(word.token(), Token::Range(_, _) | Token::Symbol(_))
+}
+
+/// The refusal of one value too many.
+pub fn too_many(word: Word) -> Stop
+    ensures { result ≡ one_too_many (seen word.entry.place word.entry.bytes.now) }
+{
+    let refusal = if is_value(word) {
+        Refusal::Limit
+    } else {
+        Refusal::Argument
+    };
+    Stop::Refused(refusal, word.place)
 }
 
 impl Reader<'_> {

@@ -1,1 +1,2 @@
 pub mod for_block;
+pub mod if_block;

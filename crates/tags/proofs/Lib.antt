@@ -1,0 +1,4 @@
+pub mod Firsts
+pub mod Follows
+pub mod Tests
+pub mod Joins

@@ -1,0 +1,43 @@
+-- What was read, as entries of the tables.
+use Rattle.std.specs.Prelude.{◌≡◌, ℕ, ◌+◌, ◌*◌, List, [], ◌∷◌, ◌++◌, Some, Ok, Err, Option, vec_items, Result}
+use Rattle.std.specs.Option.{option_map}
+use Rattle.tree.specs.Elements as tree
+use Rattle.tree.specs.Conditions as condition
+use Rattle.nodes.specs.declared.exprs.Comparison.{Comparison}
+use Rattle.nodes.specs.declared.table.Leaf.{Leaf}
+use Rattle.nodes.specs.declared.table.Node.{Node}
+use Rattle.nodes.specs.Exprs.{Pool, comparison_of}
+use Rattle.nodes.specs.Trees.{leaf_of, test_of, condition_of}
+use Rattle.arguments.specs.declared.reader.Reader.{Reader}
+use Rattle.arguments.specs.declared.refusals.Stop.{Stop}
+use Rattle.arguments.specs.Judging.{State}
+use Rattle.arguments.specs.Values.{value}
+use Rattle.arguments.specs.Tables.{pool_of, Refuses}
+use Rattle.tags.specs.Conditions.{first}
+
+abbrev pub Leaves : Pool → Leaf → tree.Leaf → Type 0
+Leaves b x y = leaf_of b x ≡ Some y
+
+abbrev pub Tests : Pool → Node → condition.Test → Type 0
+Tests b x y = test_of b x ≡ Some y
+
+-- a comparison, if there is one
+abbrev pub Comparisons : Option Comparison → Option condition.Comparison → Type 0
+Comparisons x y = y ≡ option_map comparison_of x
+
+-- a first value is judged as any other, where there is room for a node
+abbrev pub Roomy : Result (Prim.Unit {0}) Stop → ℕ → State → Type 0
+Roomy (Ok u) m s = first m s ≡ value m s
+Roomy (Err e) m s = Refuses e (first m s)
+
+-- a test stands last among the nodes
+pub record Last (d e : Reader) (u : Prim.Unit {0}) (t : condition.Test) : Type 0 where
+  pub node : Node
+  pub nodes : vec_items e.nodes ≡ vec_items d.nodes ++ (node ∷ [])
+  pub is : test_of (pool_of e) node ≡ Some t
+
+-- the nodes from one place up to another stand for a condition: k tests, and what joins them
+pub record Stands (b : Pool) (nodes : List Node) (from to : ℕ) (u : Prim.Unit {0}) (c : condition.Condition) : Type 0 where
+  pub k : ℕ
+  pub count : from + 2 * k ≡ to + 1
+  pub is : condition_of b nodes k from to ≡ Some c
