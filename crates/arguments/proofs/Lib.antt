@@ -4,3 +4,7 @@ pub mod Chaining
 pub mod Paths
 pub mod Lying
 pub mod Specials
+pub mod Rows
+pub mod Follows
+pub mod Chains
+pub mod Valuing

@@ -1,5 +1,5 @@
 -- Conditions as nodes.
-use Rattle.std.proofs.Common.{◌≡◌, ℕ, zero, suc, ◌+◌, ◌*◌, ◌<◌, true, false, cond, eqb, ltb, List, [], ◌∷◌, ◌++◌, length, Some, None, vec_items, sym, refl, ap, ◌∙◌, subst, append_assoc, arith, length-append}
+use Rattle.std.proofs.Common.{◌≡◌, ℕ, zero, suc, ◌+◌, ◌<◌, true, false, cond, eqb, ltb, List, [], ◌∷◌, ◌++◌, length, Some, vec_items, sym, refl, ap, ◌∙◌, subst, append_assoc, arith, length-append}
 use Rattle.std.proofs.Math.Seq.{get_or-append_seam}
 use Rattle.std.proofs.lemmas.Bool.{ltb-true, lt-ltb, eq-eqb, ne_eqb}
 use Rattle.std.proofs.lemmas.Option.{slice_get-get_or}
@@ -12,7 +12,10 @@ use Rattle.nodes.proofs.Options.{none_some, where_parts}
 use Rattle.nodes.proofs.Widens.{wider_then, keeps_test}
 use Rattle.arguments.specs.declared.reader.Reader.{Reader}
 use Rattle.arguments.specs.Tables.{pool_of, Grown, Longer}
-use Rattle.tags.specs.Reading.{Last, Stands}
+use Rattle.tags.specs.declared.stdlib.blocks.if_block.Joint.{Joint}
+use Rattle.tags.specs.declared.stdlib.blocks.if_block.Joint.TheVariants.{And, Or}
+use Rattle.tags.specs.Conditions.{join}
+use Rattle.tags.specs.Reading.{Last, Stands, node_of}
 
 get_seam : {A : Type 0} (xs : List A) (y : A) (ys : List A) → slice_get (xs ++ (y ∷ ys)) (length xs) ≡ Some y
 get_seam xs y ys = slice_get-get_or (xs ++ (y ∷ ys)) (length xs) y (omega (arith, length-append xs (y ∷ ys))) ∙ ap Some (get_or-append_seam xs y ys y)
@@ -50,9 +53,9 @@ more_stands b old more nodes n j t e x y is test join rest =
     let here = λ (z : Test). slice_get nodes (i + 1) so λ j. condition_of b nodes rest.k (i + 2) e so λ c. join_of b j z c in
     let behind = λ (m : Node). test_of b m so λ z. cond (eqb (i + 1) e) (Some (only z)) (where_so (ltb (i + 1) e) (here z)) in
     let second : slice_get nodes (i + 1) ≡ Some j =
-        ap (λ l. slice_get l (i + 1)) (is ∙ sym (append_assoc old (n ∷ []) (j ∷ more)))
-        ∙ ap (λ p. slice_get ((old ++ (n ∷ [])) ++ (j ∷ more)) p) (sym (length-append old (n ∷ [])))
-        ∙ get_seam (old ++ (n ∷ [])) j more in
+    ap (λ l. slice_get l (i + 1)) (is ∙ sym (append_assoc old (n ∷ []) (j ∷ more)))
+    ∙ ap (λ p. slice_get ((old ++ (n ∷ [])) ++ (j ∷ more)) p) (sym (length-append old (n ∷ [])))
+    ∙ get_seam (old ++ (n ∷ [])) j more in
     record {
       k = suc rest.k;
       count = omega (arith, rest.count);
@@ -86,3 +89,7 @@ pub last_stands : (d u v g : Reader) (t : Test) → Last d u tt t → Grown u v 
 last_stands d u v g t last h k =
     lone_stands (pool_of g) (vec_items d.nodes) (vec_items g.nodes) last.node t (k.nodes ∙ h.nodes ∙ last.nodes)
     (keeps_test (pool_of u) (pool_of g) (wider_then (pool_of u) (pool_of v) (pool_of g) h.pool k.pool) last.node t last.is)
+
+pub join_as : (b : Pool) (j : Joint) (t : Test) (x : Condition) → join_of b (node_of j) t x ≡ Some (join j t x)
+join_as b (And p) t x = refl
+join_as b (Or p) t x = refl

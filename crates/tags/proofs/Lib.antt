@@ -1,4 +1,6 @@
 pub mod Firsts
-pub mod Follows
+pub mod Endings
 pub mod Tests
 pub mod Joins
+pub mod Adding
+pub mod Whens

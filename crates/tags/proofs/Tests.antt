@@ -1,8 +1,7 @@
 -- Tests, and conditions as they are read.
-use Rattle.std.proofs.Common.{◌≡◌, ℕ, zero, suc, ◌+◌, ◌-◌, ◌<◌, Some, Option, sym, ap, ◌∙◌, arith}
-use Rattle.std.specs.Option.{option_map}
+use Rattle.std.proofs.Common.{◌≡◌, ℕ, zero, suc, ◌-◌, ◌<◌, Some, Option, sym, ap, ◌∙◌, arith}
 use Rattle.tree.specs.Expressions as tree
-use Rattle.tree.specs.Conditions.{Test, exists, compares}
+use Rattle.tree.specs.Conditions.{Test, compares}
 use Rattle.nodes.specs.declared.exprs.Comparison.{Comparison}
 use Rattle.nodes.specs.declared.exprs.Expr.{Expr}
 use Rattle.nodes.specs.declared.table.Node.TheVariants.{Compares}

@@ -60,14 +60,21 @@ joint w =
     cond (is_the_word (codes "and") w) (Some (And w.place))
     (cond (is_the_word (codes "or") w) (Some (Or w.place)) None)
 
+abbrev pub place_of : Joint → ℕ
+place_of (And p) = p
+place_of (Or p) = p
+
 -- a node more, for an `and` or `or`
-abbrev pub joining : ℕ → Judge (Prim.Unit {0})
-joining p = room_at p next λ _. one_more
+abbrev pub joining : Joint → Judge (Prim.Unit {0})
+joining j = room_at (place_of j) next λ _. one_more
+
+abbrev pub join : Joint → Test → Condition → Condition
+join (And p) t c = both t c
+join (Or p) t c = either t c
 
 abbrev pub joined : Judge Condition → Test → Option Joint → Judge Condition
 joined k t None = finished next λ _. pure (only t)
-joined k t (Some (And p)) = joining p next λ _. k next λ c. pure (both t c)
-joined k t (Some (Or p)) = joining p next λ _. k next λ c. pure (either t c)
+joined k t (Some j) = joining j next λ _. k next λ c. pure (join j t c)
 
 -- tests with `and` and `or` between them, up to the end of the mark; of at most n of them, grouped from the right
 abbrev pub condition_of : ℕ → ℕ → Judge Condition

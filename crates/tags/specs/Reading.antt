@@ -1,21 +1,27 @@
 -- What was read, as entries of the tables.
 use Rattle.std.specs.Prelude.{◌≡◌, ℕ, ◌+◌, ◌*◌, List, [], ◌∷◌, ◌++◌, Some, Ok, Err, Option, vec_items, Result}
 use Rattle.std.specs.Option.{option_map}
-use Rattle.tree.specs.Elements as tree
+use Rattle.tree.specs.Expressions as tree
+use Rattle.tree.specs.Elements as element
 use Rattle.tree.specs.Conditions as condition
 use Rattle.nodes.specs.declared.exprs.Comparison.{Comparison}
+use Rattle.nodes.specs.declared.exprs.Expr.{Expr}
+use Rattle.nodes.specs.declared.exprs.Span.{Span}
 use Rattle.nodes.specs.declared.table.Leaf.{Leaf}
 use Rattle.nodes.specs.declared.table.Node.{Node}
-use Rattle.nodes.specs.Exprs.{Pool, comparison_of}
+use Rattle.nodes.specs.declared.table.Node.TheVariants as node
+use Rattle.nodes.specs.Exprs.{Pool, each, comparison_of, expr_of, values_of}
 use Rattle.nodes.specs.Trees.{leaf_of, test_of, condition_of}
 use Rattle.arguments.specs.declared.reader.Reader.{Reader}
 use Rattle.arguments.specs.declared.refusals.Stop.{Stop}
 use Rattle.arguments.specs.Judging.{State}
 use Rattle.arguments.specs.Values.{value}
 use Rattle.arguments.specs.Tables.{pool_of, Refuses}
+use Rattle.tags.specs.declared.stdlib.blocks.if_block.Joint.{Joint}
+use Rattle.tags.specs.declared.stdlib.blocks.if_block.Joint.TheVariants.{And, Or}
 use Rattle.tags.specs.Conditions.{first}
 
-abbrev pub Leaves : Pool → Leaf → tree.Leaf → Type 0
+abbrev pub Leaves : Pool → Leaf → element.Leaf → Type 0
 Leaves b x y = leaf_of b x ≡ Some y
 
 abbrev pub Tests : Pool → Node → condition.Test → Type 0
@@ -29,6 +35,20 @@ Comparisons x y = y ≡ option_map comparison_of x
 abbrev pub Roomy : Result (Prim.Unit {0}) Stop → ℕ → State → Type 0
 Roomy (Ok u) m s = first m s ≡ value m s
 Roomy (Err e) m s = Refuses e (first m s)
+
+abbrev pub Values : Pool → Span → List tree.Expr → Type 0
+Values b x ys = values_of b x ≡ Some ys
+
+-- values that stand in the table behind others
+pub record Added (old : List Expr) (b : Pool) (u : Prim.Unit {0}) (ys : List tree.Expr) : Type 0 where
+  pub new : List Expr
+  pub values : b.values ≡ old ++ new
+  pub are : each (expr_of b) new ≡ Some ys
+
+-- an `and` or `or` as a node
+abbrev pub node_of : Joint → Node
+node_of (And p) = node.And
+node_of (Or p) = node.Or
 
 -- a test stands last among the nodes
 pub record Last (d e : Reader) (u : Prim.Unit {0}) (t : condition.Test) : Type 0 where

@@ -1,8 +1,8 @@
 // Nodes and values that enter the tables, and room for nodes.
 ghost use Rattle.std.specs.Prelude.{◌≡◌, [], ◌∷◌, ◌++◌, OnOk, vec_items};
 ghost use Rattle.arguments.specs.Judging.{pure, room_at, one_more, seen};
-ghost use Rattle.arguments.specs.Values.{read, is_value};
-ghost use Rattle.arguments.specs.Reading.{one_too_many};
+ghost use Rattle.arguments.specs.Values.{read, is_value, value};
+ghost use Rattle.arguments.specs.Reading.{one_too_many, Valued};
 ghost use Rattle.arguments.specs.Tables.{pool_of, with_values, under, Said, Longer, Is};
 
 use crate::reader::Reader;
@@ -57,8 +57,8 @@ impl Reader<'_> {
         Ok(())
     }
 
-    /// One value more.
-    pub fn push_value(&mut self, value: Expr) -> Result<(), Stop>
+    // One value more.
+    fn push_value(&mut self, value: Expr) -> Result<(), Stop>
         ensures says { Said result (pure tt (under self.old)) Is (under self.new) }
         ensures pushed { OnOk result (vec_items self.new.values ≡ vec_items self.old.values ++ value ∷ []) }
         ensures pool { pool_of self.new ≡ with_values (vec_items self.new.values) (pool_of self.old) }
@@ -67,5 +67,15 @@ impl Reader<'_> {
     {
         self.values.push(value)?;
         Ok(())
+    }
+
+    /// A value, which enters the table.
+    #[tactic(auto, using(crate::proofs::Chaining::said_went, crate::proofs::Chaining::refuses_went))]
+    pub fn enter_value(&mut self) -> Result<(), Stop>
+        ensures says { Said result (value self.old.mark (under self.old)) (Valued self.old self.new) (under self.new) }
+        ensures longer { Longer self.old self.new }
+    {
+        let value = self.value()?;
+        self.push_value(value)
     }
 }

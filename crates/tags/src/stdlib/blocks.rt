@@ -1,2 +1,3 @@
+pub mod case_block;
 pub mod for_block;
 pub mod if_block;

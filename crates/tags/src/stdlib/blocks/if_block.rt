@@ -1,16 +1,16 @@
 // The conditions of `if`, `unless` and `elsif`.
-ghost use Rattle.std.specs.Prelude.{◌≡◌, [], ◌∷◌, ◌++◌, OnOk, codes, length, vec_items};
+ghost use Rattle.std.specs.Prelude.{◌≡◌, [], ◌∷◌, ◌++◌, OnOk, length, vec_items};
 ghost use Rattle.std.specs.Option.{option_map};
 ghost use Rattle.nodes.specs.Exprs.{comparison_of};
 ghost use Rattle.arguments.specs.Judging.{token_if, seen};
-ghost use Rattle.arguments.specs.Values.{is_the_word};
 ghost use Rattle.arguments.specs.Tables.{pool_of, under, Said, Grown, Longer, Is};
 ghost use Rattle.arguments.specs.Reading.{Exprs};
-ghost use Rattle.tags.specs.Conditions.{comparison_by, comparison, first, tested, test, joint, joining, condition_of, condition};
-ghost use Rattle.tags.specs.Reading.{Comparisons, Roomy, Tests, Last, Stands};
+ghost use Rattle.tags.specs.Conditions.{comparison_by, comparison, first, tested, test, joint, place_of, joining, condition_of, condition};
+ghost use Rattle.tags.specs.Reading.{Comparisons, Roomy, Tests, Last, Stands, node_of};
 
 use arguments::reader::Reader;
 use arguments::reader::entries::{is_value, too_many};
+use arguments::reader::words::is_the_word;
 use arguments::refusals::Stop;
 use cutter::lengths::Symbol;
 use cutter::tokens::{Token, Word};
@@ -26,6 +26,25 @@ const TESTS: usize = 16;
 pub enum Joint {
     And(usize),
     Or(usize),
+}
+
+impl Joint {
+    fn place(self) -> usize
+        ensures { result ≡ place_of self }
+    {
+        match self {
+            Joint::And(place) | Joint::Or(place) => place,
+        }
+    }
+
+    fn node(self) -> Node
+        ensures { result ≡ node_of self }
+    {
+        match self {
+            Joint::And(_) => Node::And,
+            Joint::Or(_) => Node::Or,
+        }
+    }
 }
 
 fn comparison_by(symbol: Symbol) -> Option<Comparison>
@@ -114,15 +133,6 @@ fn push_test(reader: &mut Reader<'_>) -> Result<(), Stop>
     reader.push_node(node)
 }
 
-fn is_the_word(name: &[u8], word: Word) -> bool
-    ensures { result ≡ is_the_word name.now (seen word.entry.place word.entry.bytes.now) }
-{
-    match word.token() {
-        Token::Name(n) => same_text(n, name),
-        _ => false,
-    }
-}
-
 fn joint_of(word: Word) -> Option<Joint>
     ensures { result ≡ joint (seen word.entry.place word.entry.bytes.now) }
 {
@@ -152,15 +162,15 @@ fn take_joint(reader: &mut Reader<'_>) -> Result<Option<Joint>, Stop>
     Ok(found)
 }
 
-// The node of an `and` or `or` at `place` enters.
+// The node of an `and` or `or` enters.
 #[tactic(auto, using(arguments::proofs::Chaining::said_went, arguments::proofs::Chaining::refuses_went))]
-fn push_joint(reader: &mut Reader<'_>, place: usize, node: Node) -> Result<(), Stop>
-    ensures says { Said result (joining place (under reader.old)) Is (under reader.new) }
-    ensures pushed { OnOk result (vec_items reader.new.nodes ≡ vec_items reader.old.nodes ++ node ∷ []) }
+fn push_joint(reader: &mut Reader<'_>, joint: Joint) -> Result<(), Stop>
+    ensures says { Said result (joining joint (under reader.old)) Is (under reader.new) }
+    ensures pushed { OnOk result (vec_items reader.new.nodes ≡ vec_items reader.old.nodes ++ node_of joint ∷ []) }
     ensures longer { Longer reader.old reader.new }
 {
-    reader.room(place)?;
-    reader.push_node(node)
+    reader.room(joint.place())?;
+    reader.push_node(joint.node())
 }
 
 // At most `left` tests with what joins them, up to the end of the mark.
@@ -173,17 +183,11 @@ fn push_tests(reader: &mut Reader<'_>, left: usize) -> Result<(), Stop>
         return Err(too_many(reader.word()?));
     }
     push_test(reader)?;
-    match take_joint(reader)? {
-        None => reader.finish(),
-        Some(Joint::And(place)) => {
-            push_joint(reader, place, Node::And)?;
-            push_tests(reader, left - 1)
-        }
-        Some(Joint::Or(place)) => {
-            push_joint(reader, place, Node::Or)?;
-            push_tests(reader, left - 1)
-        }
-    }
+    let Some(joint) = take_joint(reader)? else {
+        return reader.finish();
+    };
+    push_joint(reader, joint)?;
+    push_tests(reader, left - 1)
 }
 
 /// The condition of an `if`, `unless` or `elsif`: its nodes enter.
