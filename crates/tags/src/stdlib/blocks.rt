@@ -1,1 +1,2 @@
+pub mod capture_block;
 pub mod for_block;
