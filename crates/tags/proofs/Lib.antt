@@ -1,3 +1,5 @@
+pub mod Leaves
+pub mod Loops
 pub mod Firsts
 pub mod Endings
 pub mod Tests

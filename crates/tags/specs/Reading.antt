@@ -1,8 +1,8 @@
 -- What was read, as entries of the tables.
-use Rattle.std.specs.Prelude.{◌≡◌, ℕ, ◌+◌, ◌*◌, List, [], ◌∷◌, ◌++◌, Some, Ok, Err, Option, vec_items, Result}
+use Rattle.std.specs.Prelude.{◌≡◌, ℕ, ◌+◌, ◌*◌, List, [], ◌∷◌, ◌++◌, Some, Ok, Err, Option, vec_items, Result, ◌<◌}
 use Rattle.std.specs.Option.{option_map}
-use Rattle.tree.specs.Expressions as tree
-use Rattle.tree.specs.Elements as element
+use Rattle.tree.specs.Expressions as expression
+use Rattle.tree.specs.Elements as tree
 use Rattle.tree.specs.Conditions as condition
 use Rattle.nodes.specs.declared.exprs.Comparison.{Comparison}
 use Rattle.nodes.specs.declared.exprs.Expr.{Expr}
@@ -10,7 +10,7 @@ use Rattle.nodes.specs.declared.exprs.Span.{Span}
 use Rattle.nodes.specs.declared.table.Leaf.{Leaf}
 use Rattle.nodes.specs.declared.table.Node.{Node}
 use Rattle.nodes.specs.declared.table.Node.TheVariants as node
-use Rattle.nodes.specs.Exprs.{Pool, each, comparison_of, expr_of, values_of}
+use Rattle.nodes.specs.Exprs.{Pool, each, comparison_of, expr_of, values_of, if_any}
 use Rattle.nodes.specs.Trees.{leaf_of, test_of, condition_of}
 use Rattle.arguments.specs.declared.reader.Reader.{Reader}
 use Rattle.arguments.specs.declared.refusals.Stop.{Stop}
@@ -20,9 +20,25 @@ use Rattle.arguments.specs.Tables.{pool_of, Refuses}
 use Rattle.tags.specs.declared.stdlib.blocks.if_block.Joint.{Joint}
 use Rattle.tags.specs.declared.stdlib.blocks.if_block.Joint.TheVariants.{And, Or}
 use Rattle.tags.specs.Conditions.{first}
+use Rattle.arguments.specs.Reading.{Rows}
+use Rattle.tags.specs.declared.stdlib.blocks.for_block.Attributes.{Attributes as CodeAttributes}
+use Rattle.tags.specs.declared.stdlib.blocks.for_block.Header.{Header as CodeHeader}
+use Rattle.tags.specs.Loops.{Attributes, Header}
 
-abbrev pub Leaves : Pool → Leaf → element.Leaf → Type 0
+abbrev pub Leaves : Pool → Leaf → tree.Leaf → Type 0
 Leaves b x y = leaf_of b x ≡ Some y
+
+pub record Settings (b : Pool) (x : CodeAttributes) (y : Attributes) : Type 0 where
+  pub cols : if_any (expr_of b) x.cols ≡ Some y.cols
+  pub limit : if_any (expr_of b) x.limit ≡ Some y.limit
+  pub offset : if_any (expr_of b) x.offset ≡ Some y.offset
+  pub reversed : y.reversed ≡ x.reversed
+
+pub record Headers (b : Pool) (x : CodeHeader) (y : Header) : Type 0 where
+  pub variable : y.variable ≡ x.variable
+  pub there : x.variable < b.names
+  pub row : Rows b x.row y.row
+  pub attributes : Settings b x.attributes y.attributes
 
 abbrev pub Tests : Pool → Node → condition.Test → Type 0
 Tests b x y = test_of b x ≡ Some y
@@ -36,11 +52,11 @@ abbrev pub Roomy : Result (Prim.Unit {0}) Stop → ℕ → State → Type 0
 Roomy (Ok u) m s = first m s ≡ value m s
 Roomy (Err e) m s = Refuses e (first m s)
 
-abbrev pub Values : Pool → Span → List tree.Expr → Type 0
+abbrev pub Values : Pool → Span → List expression.Expr → Type 0
 Values b x ys = values_of b x ≡ Some ys
 
 -- values that stand in the table behind others
-pub record Added (old : List Expr) (b : Pool) (u : Prim.Unit {0}) (ys : List tree.Expr) : Type 0 where
+pub record Added (old : List Expr) (b : Pool) (u : Prim.Unit {0}) (ys : List expression.Expr) : Type 0 where
   pub new : List Expr
   pub values : b.values ≡ old ++ new
   pub are : each (expr_of b) new ≡ Some ys

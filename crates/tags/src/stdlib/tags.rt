@@ -1,0 +1,3 @@
+pub mod assign_tag;
+pub mod increment_tags;
+pub mod interrupt_tags;
