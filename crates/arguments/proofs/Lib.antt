@@ -8,3 +8,4 @@ pub mod Rows
 pub mod Follows
 pub mod Chains
 pub mod Valuing
+pub mod Anywhere

@@ -6,3 +6,4 @@ pub mod Tests
 pub mod Joins
 pub mod Adding
 pub mod Whens
+pub mod Cycles

@@ -1,6 +1,7 @@
 -- What was read, as entries of the tables.
-use Rattle.std.specs.Prelude.{◌≡◌, ℕ, ◌+◌, ◌*◌, List, [], ◌∷◌, ◌++◌, Some, Ok, Err, Option, vec_items, Result, ◌<◌}
+use Rattle.std.specs.Prelude.{◌≡◌, ℕ, ◌+◌, ◌*◌, List, [], ◌∷◌, ◌++◌, length, Some, None, Ok, Err, Option, vec_items, Result, ◌<◌}
 use Rattle.std.specs.Option.{option_map}
+use Rattle.arrayvec.specs.ArrayVec.{ArrayVec}
 use Rattle.tree.specs.Expressions as expression
 use Rattle.tree.specs.Elements as tree
 use Rattle.tree.specs.Conditions as condition
@@ -23,6 +24,7 @@ use Rattle.tags.specs.Conditions.{first}
 use Rattle.arguments.specs.Reading.{Rows}
 use Rattle.tags.specs.declared.stdlib.blocks.for_block.Attributes.{Attributes as CodeAttributes}
 use Rattle.tags.specs.declared.stdlib.blocks.for_block.Header.{Header as CodeHeader}
+use Rattle.tags.specs.Cycles.{Written, joined_with, values_in}
 use Rattle.tags.specs.Loops.{Attributes, Header}
 
 abbrev pub Leaves : Pool → Leaf → tree.Leaf → Type 0
@@ -77,3 +79,13 @@ pub record Stands (b : Pool) (nodes : List Node) (from to : ℕ) (u : Prim.Unit 
   pub k : ℕ
   pub count : from + 2 * k ≡ to + 1
   pub is : condition_of b nodes k from to ≡ Some c
+
+-- the name that values make so far; none where it is longer than a name may be
+abbrev pub Names : Option (ArrayVec ℕ) → List ℕ → Type 0
+Names None b = 128 < length b
+Names (Some v) b = v.items ≡ b
+
+-- the values that follow in a cycle stand in the table behind others, and the name goes on with them
+pub record Continued (old : List Expr) (b : Pool) (name after : Option (ArrayVec ℕ)) (ws : List Written) : Type 0 where
+  pub added : Added old b tt (values_in ws)
+  pub named : (a : List ℕ) → Names name a → Names after (joined_with a ws)
