@@ -1,15 +1,23 @@
 -- The values and the name of a `cycle` as they are read.
-use Rattle.std.proofs.Common.{◌≡◌, ℕ, zero, suc, ◌-◌, ◌<◌, Bool, true, false, cond, List, [], ◌∷◌, ◌++◌, Option, refl, sym, ap, ◌∙◌, subst, append_assoc, arith}
+use Rattle.std.proofs.Common.{◌≡◌, ℕ, zero, suc, ◌-◌, ◌<◌, Bool, true, false, cond, ltb, List, [], ◌∷◌, ◌++◌, Some, Option, refl, sym, ap, ◌∙◌, subst, append_assoc, arith}
+use Rattle.std.proofs.lemmas.Bool.{lt-ltb}
 use Rattle.cutter.specs.declared.lengths.Symbol.TheVariants.{Comma}
 use Rattle.cutter.specs.Words.{Words, over, wrong, word}
 use Rattle.tree.specs.Expressions.{Expr}
+use Rattle.tree.specs.Elements.{cycle}
+use Rattle.nodes.specs.declared.exprs.Span.{Span}
+use Rattle.nodes.specs.declared.table.Leaf.TheVariants.{Cycle}
+use Rattle.nodes.specs.Exprs.{Pool, ◌so◌, only}
+use Rattle.nodes.specs.Trees.{leaf_of}
 use Rattle.arguments.specs.declared.refusals.Stop.{Stop}
-use Rattle.arguments.specs.declared.refusals.Stop.TheVariants.{Refused}
+use Rattle.arguments.specs.declared.refusals.Stop.TheVariants.{Refused, Memory}
 use Rattle.arguments.specs.declared.refusals.Refusal.TheVariants.{Limit, Argument}
-use Rattle.arguments.specs.Judging.{Lists, State, state, refuses, passes, went, ◌next◌, refuse, seen, token, token_if}
-use Rattle.arguments.specs.Values.{read, is_value, value, symbol_at}
+use Rattle.arguments.specs.Judging.{Lists, State, state, Verdict, refuses, passes, went, ◌next◌, refuse, Seen, seen, token, token_if}
+use Rattle.arguments.specs.Values.{read, is_value, value_as, value, symbol_at}
 use Rattle.arguments.specs.Tables.{Refuses}
 use Rattle.arguments.specs.Reading.{one_too_many}
+use Rattle.arguments.proofs.Anywhere.{moved, value_anywhere}
+use Rattle.tags.specs.Reading.{Values}
 use Rattle.tags.specs.Cycles.{Written, written, listed, values_of, joined_with}
 
 pub values_over : (left : ℕ) (a : Words) (l : Lists) → a ≡ over → values_of left (state a l) ≡ passes [] (state a l)
@@ -63,3 +71,24 @@ joined_front a c (x ∷ xs) = append_assoc a c (44 ∷ 32 ∷ joined_with x.byte
 -- a value that goes on with a name, and those behind it
 pub joined_more : (a b : List ℕ) (ws : List Written) → joined_with (a ++ (44 ∷ 32 ∷ b)) ws ≡ a ++ (44 ∷ 32 ∷ joined_with b ws)
 joined_more a b ws = joined_front a (44 ∷ 32 ∷ b) ws ∙ ap (λ x. a ++ x) (joined_front (44 ∷ 32 ∷ []) b ws)
+
+pub cycle_leaf : (b : Pool) (n k : ℕ) (s : Span) (xs : List Expr) → Values b s xs → k ≡ n → n < b.cycles → leaf_of b (Cycle n s) ≡ Some (cycle k xs)
+unfolding leaf_of
+cycle_leaf b n k s xs are same below =
+    ap (λ o. o so λ ys. only (ltb n b.cycles) (cycle n ys)) are ∙ ap (λ t. only t (cycle n xs)) (lt-ltb n b.cycles below) ∙ ap (λ i. Some (cycle i xs)) (sym same)
+
+-- the first value, with what is ahead put back
+pub first_back : (m : ℕ) (a b rest : Words) (p : ℕ) (t : List ℕ) (l : Lists) → a ≡ word p t rest → value_as p p (read (seen p t)) (state b l) ≡ moved b (value m (state a l))
+unfolding value token
+first_back m a b rest p t l h = value_anywhere p p (read (seen p t)) rest b l ∙ sym (ap (λ x. moved b (value m (state x l))) h)
+
+pub refuses_moved : {A : Type 0} (e : Stop) (b : Words) (v : Verdict A) → Refuses e v → Refuses e (moved b v)
+refuses_moved (Refused k p) b v h = ap (moved b) h
+refuses_moved Memory b v h = tt
+
+-- a token that was taken stood ahead
+pub token_ahead : (m : ℕ) (a : Words) (l : Lists) (y w : Seen) (s : State) → token m (state a l) ≡ passes y s → y ≡ w → (rest : Words) × (a ≡ word w.place w.bytes rest)
+unfolding token
+token_ahead m over l y w s h e = cc
+token_ahead m (wrong p) l y w s h e = cc
+token_ahead m (word p b rest) l y w s h e = let same : seen p b ≡ w = cc in (rest, ap (λ z. word z.place z.bytes rest) same)

@@ -21,7 +21,8 @@ pub fn symbol_of(word: Word) -> Option<Symbol>
     }
 }
 
-fn has_symbol(symbol: Symbol, word: Word) -> bool
+/// Whether a token is this symbol.
+pub fn has_symbol(symbol: Symbol, word: Word) -> bool
     ensures { result ≡ is_the_symbol symbol (seen word.entry.place word.entry.bytes.now) }
 {
     symbol_of(word) == Some(symbol)

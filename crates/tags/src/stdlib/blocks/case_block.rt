@@ -7,7 +7,7 @@ ghost use Rattle.tags.specs.Reading.{Values, Added};
 
 use arguments::reader::Reader;
 use arguments::reader::entries::too_many;
-use arguments::reader::words::{is_the_word, symbol_of};
+use arguments::reader::words::{has_symbol, is_the_word};
 use arguments::refusals::Stop;
 use cutter::lengths::Symbol;
 use cutter::tokens::Word;
@@ -20,7 +20,7 @@ const VALUES: usize = 16;
 fn is_separator(word: Word) -> bool
     ensures { result ≡ is_separator (seen word.entry.place word.entry.bytes.now) }
 {
-    is_the_word(b"or", word) || symbol_of(word) == Some(Symbol::Comma)
+    is_the_word(b"or", word) || has_symbol(Symbol::Comma, word)
 }
 
 // The place of the next token, which is taken, if it is `or` or a comma.

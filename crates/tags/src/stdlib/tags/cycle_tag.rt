@@ -1,7 +1,7 @@
 // The values and the name of a `cycle`.
 ghost use Rattle.std.specs.Prelude.{◌≡◌, true, ◌∷◌, ◌++◌, List, ℕ, length, vec_items};
 ghost use Rattle.numerals.specs.Decimal.{whole_text};
-ghost use Rattle.cutter.specs.Words.{Words, word};
+ghost use Rattle.cutter.specs.Words.{Words, word as token};
 ghost use Rattle.cutter.specs.Ahead.{ahead};
 ghost use Rattle.arguments.specs.Judging.{seen, enter_cycle};
 ghost use Rattle.arguments.specs.Standing.{standing};
@@ -13,7 +13,7 @@ ghost use Rattle.tags.specs.Reading.{Leaves, Names, Continued};
 
 use arguments::reader::Reader;
 use arguments::reader::entries::too_many;
-use arguments::reader::words::symbol_of;
+use arguments::reader::words::has_symbol;
 use arguments::refusals::{Refusal, Stop};
 use arrayvec::ArrayVec;
 use cutter::lengths::Symbol;
@@ -97,4 +97,70 @@ fn enter_name(reader: &mut Reader<'_>, word: Word<'_>) -> Result<usize, Stop>
             place,
         )),
     }
+}
+
+// The arguments of a cycle with a name, which is the token `word`.
+#[tactic(auto, using(arguments::proofs::Chaining::said_went, arguments::proofs::Chaining::refuses_went), unfolding(crate::specs::Cycles::named))]
+fn named(reader: &mut Reader<'_>, word: Word<'_>) -> Result<Leaf, Stop>
+    ensures says { Said result (named (seen word.entry.place word.entry.bytes.now) (under reader.old)) (Leaves (pool_of reader.new)) (under reader.new) }
+    ensures longer { Longer reader.old reader.new }
+{
+    let cycle = enter_name(reader, word)?;
+    let from = reader.values.len();
+    enter_values(reader, VALUES, None)?;
+    let count = reader.values.len() - from;
+    Ok(Leaf::Cycle(cycle, Span { from, count }))
+}
+
+// The value of the token at `start` enters the table; what is ahead stays ahead.
+fn enter_first<'a>(reader: &mut Reader<'a>, start: Cursor<'a>) -> Result<(), Stop>
+    requires { standing reader.old.source.now (ahead start) ≡ true }
+    ensures says { (p : ℕ) (b : List ℕ) (rest : Words) → ahead start.entry ≡ token p b rest → Said result (value_as p p (read (seen p b)) (under reader.old)) (Valued reader.old reader.new) (under reader.new) }
+    ensures longer { Longer reader.old reader.new }
+{
+    let behind = reader.cursor;
+    reader.cursor = start;
+    reader.enter_value()?;
+    reader.cursor = behind;
+    Ok(())
+}
+
+// The arguments of a cycle without a name: `word`, the token at `start`, is the first of its values.
+#[tactic(auto, using(arguments::proofs::Chaining::said_went, arguments::proofs::Chaining::refuses_went), unfolding(crate::specs::Cycles::unnamed))]
+fn unnamed<'a>(reader: &mut Reader<'a>, start: Cursor<'a>, word: Word<'a>) -> Result<Leaf, Stop>
+    requires stands { standing reader.old.source.now (ahead start) ≡ true }
+    requires first { (rest : Words) × ahead start ≡ token word.place word.bytes.now rest }
+    ensures says { Said result (unnamed (seen word.entry.place word.entry.bytes.now) (under reader.old)) (Leaves (pool_of reader.new)) (under reader.new) }
+    ensures longer { Longer reader.old reader.new }
+{
+    let place = word.place;
+    let from = reader.values.len();
+    enter_first(reader, start)?;
+    let name = extended(Some(ArrayVec::new()), word.bytes);
+    let Some(name) = enter_values(reader, VALUES - 1, name)? else {
+        return Err(Stop::Refused(Refusal::Limit, place));
+    };
+    let cycle = reader.enter_made(place, name.as_slice())?;
+    let count = reader.values.len() - from;
+    Ok(Leaf::Cycle(cycle, Span { from, count }))
+}
+
+/// The arguments of a `cycle`.
+#[tactic(auto, using(arguments::proofs::Chaining::said_went, arguments::proofs::Chaining::refuses_went), unfolding(crate::specs::Cycles::cycle_tag))]
+pub fn parse(reader: &mut Reader<'_>) -> Result<Leaf, Stop>
+    ensures says { Said result (cycle_tag reader.old.mark (under reader.old)) (Leaves (pool_of reader.new)) (under reader.new) }
+    ensures longer { Longer reader.old reader.new }
+{
+    let start = reader.cursor;
+    let first = reader.word()?;
+    let Some(second) = reader.next_word()? else {
+        return unnamed(reader, start, first);
+    };
+    if has_symbol(Symbol::Colon, second) {
+        return named(reader, first);
+    }
+    if has_symbol(Symbol::Comma, second) {
+        return unnamed(reader, start, first);
+    }
+    Err(Stop::Refused(Refusal::Argument, second.place))
 }
