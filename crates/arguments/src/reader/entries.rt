@@ -89,6 +89,7 @@ impl Reader<'_> {
     #[tactic(auto, using(crate::proofs::Chaining::said_went, crate::proofs::Chaining::refuses_went))]
     pub fn enter_value(&mut self) -> Result<(), Stop>
         ensures says { Said result (value self.old.mark (under self.old)) (Valued self.old self.new) (under self.new) }
+        ensures nodes { vec_items self.new.nodes ≡ vec_items self.old.nodes }
         ensures longer { Longer self.old self.new }
     {
         let value = self.value()?;

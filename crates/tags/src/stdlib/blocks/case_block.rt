@@ -43,6 +43,7 @@ fn take_separator(reader: &mut Reader<'_>) -> Result<Option<usize>, Stop>
 #[tactic(auto, using(arguments::proofs::Chaining::said_went, arguments::proofs::Chaining::refuses_went))]
 fn enter_values(reader: &mut Reader<'_>, left: usize) -> Result<(), Stop>
     ensures says { Said result (whens_of left reader.old.mark (under reader.old)) (Added (vec_items reader.old.values) (pool_of reader.new)) (under reader.new) }
+    ensures nodes { vec_items reader.new.nodes ≡ vec_items reader.old.nodes }
     ensures longer { Longer reader.old reader.new }
 {
     if left == 0 {
@@ -59,6 +60,7 @@ fn enter_values(reader: &mut Reader<'_>, left: usize) -> Result<(), Stop>
 #[tactic(auto, using(arguments::proofs::Chaining::said_went, arguments::proofs::Chaining::refuses_went), unfolding(crate::specs::Whens::whens))]
 pub fn parse_values(reader: &mut Reader<'_>) -> Result<Span, Stop>
     ensures says { Said result (whens reader.old.mark (under reader.old)) (Values (pool_of reader.new)) (under reader.new) }
+    ensures nodes { vec_items reader.new.nodes ≡ vec_items reader.old.nodes }
     ensures longer { Longer reader.old reader.new }
 {
     let from = reader.values.len();

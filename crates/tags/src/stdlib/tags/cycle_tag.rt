@@ -51,6 +51,7 @@ fn enter_values(
     name: Option<ArrayVec<u8, 128>>,
 ) -> Result<Option<ArrayVec<u8, 128>>, Stop>
     ensures says { Said result (values_of left (under reader.old)) (Continued (vec_items reader.old.values) (pool_of reader.new) name) (under reader.new) }
+    ensures nodes { vec_items reader.new.nodes ≡ vec_items reader.old.nodes }
     ensures longer { Longer reader.old reader.new }
 {
     let Some(word) = reader.cursor.peek()? else {
@@ -103,6 +104,7 @@ fn enter_name(reader: &mut Reader<'_>, word: Word<'_>) -> Result<usize, Stop>
 #[tactic(auto, using(arguments::proofs::Chaining::said_went, arguments::proofs::Chaining::refuses_went), unfolding(crate::specs::Cycles::named))]
 fn named(reader: &mut Reader<'_>, word: Word<'_>) -> Result<Leaf, Stop>
     ensures says { Said result (named (seen word.entry.place word.entry.bytes.now) (under reader.old)) (Leaves (pool_of reader.new)) (under reader.new) }
+    ensures nodes { vec_items reader.new.nodes ≡ vec_items reader.old.nodes }
     ensures longer { Longer reader.old reader.new }
 {
     let cycle = enter_name(reader, word)?;
@@ -116,6 +118,7 @@ fn named(reader: &mut Reader<'_>, word: Word<'_>) -> Result<Leaf, Stop>
 fn enter_first<'a>(reader: &mut Reader<'a>, start: Cursor<'a>) -> Result<(), Stop>
     requires { standing reader.old.source.now (ahead start) ≡ true }
     ensures says { (p : ℕ) (b : List ℕ) (rest : Words) → ahead start.entry ≡ token p b rest → Said result (value_as p p (read (seen p b)) (under reader.old)) (Valued reader.old reader.new) (under reader.new) }
+    ensures nodes { vec_items reader.new.nodes ≡ vec_items reader.old.nodes }
     ensures longer { Longer reader.old reader.new }
 {
     let behind = reader.cursor;
@@ -131,6 +134,7 @@ fn unnamed<'a>(reader: &mut Reader<'a>, start: Cursor<'a>, word: Word<'a>) -> Re
     requires stands { standing reader.old.source.now (ahead start) ≡ true }
     requires first { (rest : Words) × ahead start ≡ token word.place word.bytes.now rest }
     ensures says { Said result (unnamed (seen word.entry.place word.entry.bytes.now) (under reader.old)) (Leaves (pool_of reader.new)) (under reader.new) }
+    ensures nodes { vec_items reader.new.nodes ≡ vec_items reader.old.nodes }
     ensures longer { Longer reader.old reader.new }
 {
     let place = word.place;
@@ -149,6 +153,7 @@ fn unnamed<'a>(reader: &mut Reader<'a>, start: Cursor<'a>, word: Word<'a>) -> Re
 #[tactic(auto, using(arguments::proofs::Chaining::said_went, arguments::proofs::Chaining::refuses_went), unfolding(crate::specs::Cycles::cycle_tag))]
 pub fn parse(reader: &mut Reader<'_>) -> Result<Leaf, Stop>
     ensures says { Said result (cycle_tag reader.old.mark (under reader.old)) (Leaves (pool_of reader.new)) (under reader.new) }
+    ensures nodes { vec_items reader.new.nodes ≡ vec_items reader.old.nodes }
     ensures longer { Longer reader.old reader.new }
 {
     let start = reader.cursor;
