@@ -5,3 +5,4 @@ pub mod Setting
 pub mod Arming
 pub mod Opening
 pub mod Beginning
+pub mod Guards

@@ -8,4 +8,5 @@ mod leaves;
 mod names;
 mod parser;
 mod pieces;
+mod stdlib;
 mod table;
