@@ -6,3 +6,4 @@ pub mod Arming
 pub mod Opening
 pub mod Beginning
 pub mod Guards
+pub mod Leaving

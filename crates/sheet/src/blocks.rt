@@ -3,14 +3,10 @@ ghost use Rattle.std.specs.Prelude.{◌≡◌, ◌+◌, OnOk};
 ghost use Rattle.arguments.specs.Tables.{under, Said, Grown, Longer, Is};
 ghost use Rattle.arguments.specs.declared.refusals.Stop.TheVariants.{Refused};
 ghost use Rattle.arguments.specs.declared.refusals.Refusal.TheVariants.{UnknownTag};
-ghost use Rattle.cutter.specs.Ahead.{ahead};
-ghost use Rattle.sheet.specs.Steps.{judged};
-ghost use Rattle.sheet.specs.Blocks.{held, ended, bare_else, closed, only_end, following, opens, opened, follows, closes};
-ghost use Rattle.sheet.specs.Answers.{tag_in, taken, nodes_of, Did, Went, Same};
+ghost use Rattle.sheet.specs.Blocks.{held, behind_node, ended, bare_else, closed, only_end, following, opened, follows, closes};
 ghost use Rattle.sheet.specs.Opening.{long, tag_of, OpensIn, Opens, Follows};
 
 use crate::names::{Block, Closer, closer_of};
-use crate::parser::Parser;
 use crate::stdlib::blocks::capture_block::open_capture;
 use crate::stdlib::blocks::case_block::{after_case, open_case};
 use crate::stdlib::blocks::for_block::{after_for, open_for, open_tablerow};
@@ -78,7 +74,7 @@ pub(crate) fn bare_else(reader: &mut Reader<'_>) -> Result<Following, Stop>
 }
 
 // The arguments of a tag that opens a block.
-pub(crate) fn open_block(reader: &mut Reader<'_>, kind: Block) -> Result<Opened, Stop>
+fn open_block(reader: &mut Reader<'_>, kind: Block) -> Result<Opened, Stop>
     ensures says { Said result (opened kind reader.old.mark (under reader.old)) (OpensIn reader.old reader.new) (under reader.new) }
     ensures longer { Longer reader.old reader.new }
 {
@@ -91,6 +87,15 @@ pub(crate) fn open_block(reader: &mut Reader<'_>, kind: Block) -> Result<Opened,
         Block::Capture => open_capture(reader),
         Block::Ifchanged => open_ifchanged(reader),
     }
+}
+
+// The node of a block, which is set later, and the arguments of its tag.
+pub(crate) fn open_held(reader: &mut Reader<'_>, kind: Block) -> Result<Opened, Stop>
+    ensures says { Said result (behind_node reader.old.mark (opened kind reader.old.mark) (under reader.old)) (Opens reader.old reader.new) (under reader.new) }
+    ensures longer { Longer reader.old reader.new }
+{
+    hold(reader)?;
+    open_block(reader, kind)
 }
 
 // The end tag, if nothing is left over.
@@ -143,33 +148,4 @@ pub(crate) fn closes(reader: &mut Reader<'_>, kind: Block, tag: Word) -> Result<
     ensures grown { Grown reader.old reader.new }
 {
     closed(reader, tag, closer_of(kind.end_tag(), tag.bytes))
-}
-
-impl<'a> Parser<'a> {
-    // STUB
-    pub(crate) fn open(&mut self, room: usize, block: Block) -> Result<Opened, Stop>
-        ensures says { Did result (taken (judged (opens room self.old.reader.mark (opened block self.old.reader.mark)) (ahead self.old.reader.cursor)) self.old) (Opens self.old.reader self.new.reader) self.new }
-        ensures went { Went self.old self.new }
-        ensures cutter { self.new.cutter ≡ self.old.cutter }
-    {
-        Err(Stop::Memory)
-    }
-
-    // STUB
-    pub(crate) fn follow(&mut self, block: Block, tag: Word<'a>) -> Result<Following, Stop>
-        ensures says { Did result (taken (judged (follows block (tag_in self.old tag.entry)) (ahead self.old.reader.cursor)) self.old) (Follows self.old.reader self.new.reader) self.new }
-        ensures went { Went self.old self.new }
-        ensures cutter { self.new.cutter ≡ self.old.cutter }
-    {
-        Err(Stop::Memory)
-    }
-
-    // STUB
-    pub(crate) fn last(&mut self, block: Block, tag: Word<'a>) -> Result<(), Stop>
-        ensures says { Did result (taken (judged (closes block (tag_in self.old tag.entry)) (ahead self.old.reader.cursor)) self.old) (Same self.old self.new) self.new }
-        ensures went { Went self.old self.new }
-        ensures cutter { self.new.cutter ≡ self.old.cutter }
-    {
-        Err(Stop::Memory)
-    }
 }

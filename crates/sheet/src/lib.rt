@@ -8,5 +8,6 @@ mod leaves;
 mod names;
 mod parser;
 mod pieces;
+mod reading;
 mod stdlib;
 mod table;
