@@ -173,3 +173,7 @@ RestRead room b w p r q =
 -- the nodes are the same
 abbrev pub Same : Parser → Parser → Prim.Unit {0} → Prim.Unit {0} → Type 0
 Same p q u y = nodes_of q ≡ nodes_of p
+
+-- a part read whole: its elements, with no tag left over
+abbrev pub Parts : Parser → Parser → Prim.Unit {0} → Elements → Type 0
+Parts p q u y = Body (pool_of q.reader) (nodes_of q) 16 (count p) (count q) y.tree × (y.ending ≡ None)

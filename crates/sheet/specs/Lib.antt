@@ -5,3 +5,6 @@ pub mod Opening
 pub mod Parsing
 pub mod Standing
 pub mod Answers
+pub mod Loading
+pub mod Templates
+pub mod Sheets
