@@ -7,3 +7,4 @@ pub mod Opening
 pub mod Beginning
 pub mod Guards
 pub mod Leaving
+pub mod Whole

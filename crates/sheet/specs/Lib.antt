@@ -6,5 +6,6 @@ pub mod Parsing
 pub mod Standing
 pub mod Answers
 pub mod Loading
+pub mod Parts
 pub mod Templates
 pub mod Sheets

@@ -5,7 +5,6 @@ use Rattle.arguments.specs.declared.refusals.Stop.{Stop}
 use Rattle.arguments.specs.declared.refusals.Stop.TheVariants.{Refused, Memory}
 use Rattle.arguments.specs.Refusals.{number_of}
 use Rattle.arguments.specs.Judging.{Lists}
-use Rattle.arguments.specs.Marks.{SameTables}
 use Rattle.arguments.specs.Tables.{pool_of, lists_of}
 use Rattle.sheet.specs.declared.templates.Template.{Template}
 use Rattle.sheet.specs.declared.sheet.Sheet.{Sheet}
@@ -27,7 +26,13 @@ source_in s = s.parser.reader.source.now
 
 -- all that a sheet holds is the same
 pub record Untouched (s t : Sheet) : Type 0 where
-  pub tables : SameTables s.parser.reader t.parser.reader
+  pub source : source_in t ≡ source_in s
+  pub names : vec_items t.parser.reader.names ≡ vec_items s.parser.reader.names
+  pub cycles : vec_items t.parser.reader.cycles ≡ vec_items s.parser.reader.cycles
+  pub steps : vec_items t.parser.reader.steps ≡ vec_items s.parser.reader.steps
+  pub values : vec_items t.parser.reader.values ≡ vec_items s.parser.reader.values
+  pub filters : vec_items t.parser.reader.filters ≡ vec_items s.parser.reader.filters
+  pub nodes : vec_items t.parser.reader.nodes ≡ vec_items s.parser.reader.nodes
   pub templates : templates_of t ≡ templates_of s
 
 -- A template more: its tree behind the others, and the lists then.

@@ -5,6 +5,7 @@
 mod blocks;
 mod elements;
 mod leaves;
+mod loading;
 mod names;
 mod parser;
 mod parts;

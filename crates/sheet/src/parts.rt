@@ -3,8 +3,10 @@ ghost use Rattle.std.specs.Prelude.{◌≡◌, ◌≤◌, length, map};
 ghost use Rattle.arguments.specs.Lengths.{lengths_of, CutBack};
 ghost use Rattle.arguments.specs.Tables.{part_in, asked_in};
 ghost use Rattle.sheet.specs.Loading.{first_unknown, part_of};
-ghost use Rattle.sheet.specs.Answers.{source_of, cut_of, Went};
+ghost use Rattle.sheet.specs.Answers.{source_of, cut_of, Grew};
+ghost use Rattle.sheet.specs.Parts.{PartRead};
 
+use crate::blocks::unknown;
 use crate::parser::Parser;
 use arguments::reader::lengths::Lengths;
 use arguments::reader::lists::part_in;
@@ -41,6 +43,30 @@ impl<'a> Parser<'a> {
     {
         self.cutter = Cutter::at(&self.reader.source[..to], from);
         self.end = to;
+    }
+
+    // Reads the part from one place up to another.
+    pub(crate) fn part<B: Bank>(
+        &mut self,
+        from: usize,
+        to: usize,
+        bank: &mut B,
+    ) -> Result<(), Stop>
+        requires inside { to ≤ length (source_of self.old) }
+        ensures says { PartRead (B.Bank.meaning bank.old).known from to self.old result self.new }
+        ensures grew { Grew self.old self.new }
+        ensures same { B.Bank.meaning bank.new ≡ B.Bank.meaning bank.old }
+    {
+        let asked = self.reader.filters.len();
+        self.turn(from, to);
+        if let Some(tag) = self.elements(BLOCKS)? {
+            return Err(unknown(tag));
+        }
+        let filters = &self.reader.filters.as_slice()[asked..];
+        match first_unknown(self.reader.source, filters, bank) {
+            Some(place) => Err(Stop::Refused(Refusal::UnknownFilter, place)),
+            None => Ok(()),
+        }
     }
 
     // How long the tables are.
