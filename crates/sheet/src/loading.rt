@@ -42,25 +42,25 @@ fn add<B: Bank>(
 
 impl<'a> Sheet<'a> {
     /// A sheet over this source text, without templates.
-    pub fn new(heap: Global, source: &'a [u8]) -> Sheet<'a>
-        ensures source { source_in result ≡ source.now }
+    pub fn new(heap: Global, text: &'a [u8]) -> Sheet<'a>
+        ensures source { source_in result ≡ text.now }
         ensures templates { templates_of result ≡ [] }
         ensures lists { lists result ≡ record { names = []; cycles = []; nodes = 0; asked = [] } }
     {
         Sheet {
             parser: Parser {
                 reader: Reader {
-                    source,
+                    source: text,
                     names: Vec::new(heap),
                     cycles: Vec::new(heap),
                     steps: Vec::new(heap),
                     values: Vec::new(heap),
                     filters: Vec::new(heap),
                     nodes: Vec::new(heap),
-                    cursor: Cursor::at(source, source.len()),
+                    cursor: Cursor::at(text, text.len()),
                     mark: 0,
                 },
-                cutter: Cutter::at(source, source.len()),
+                cutter: Cutter::at(text, text.len()),
                 end: 0,
             },
             templates: Vec::new(heap),
@@ -105,7 +105,7 @@ impl<'a> Sheet<'a> {
         ensures says { Loads (B.Bank.meaning bank.old).known place len self.old result self.new }
         ensures same { B.Bank.meaning bank.new ≡ B.Bank.meaning bank.old }
     {
-        let template = self.templates.len();
+        let template = self.template_count();
         let whole = self.parser.reader.source.len();
         if place > whole || len > whole - place {
             return Err(Stop::Refused(Refusal::OutsideSource, place));

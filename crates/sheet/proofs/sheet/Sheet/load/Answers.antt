@@ -22,7 +22,7 @@ returns-then-template-ge-TEMPLATES-clause-says g c =
     let s = c.args.self.now in
     let fits : c.args.place + c.args.len ≤ length (source_in s) = omega (arith, c.if-place-whole.false, c.if-len-whole.false) in
     (elim c.then-template-ge-TEMPLATES.branch [
-      | then-template-ge-TEMPLATES-via-then-template-ge-TEMPLATES w ↦ load_many known (source_in s) (length (templates_of s)) c.args.place c.args.len (lists s) fits (omega (arith, w.if-template-ge-TEMPLATES.true, c.len-template.ensures, s.templates.ok.0))
+      | then-template-ge-TEMPLATES-via-then-template-ge-TEMPLATES w ↦ load_many known (source_in s) (length (templates_of s)) c.args.place c.args.len (lists s) fits (omega (arith, w.if-template-ge-TEMPLATES.true, c.template_count-template.ensures))
       | then-template-ge-TEMPLATES-via-else-template-ge-TEMPLATES+then-len-gt-LONGEST w ↦ load_long known (source_in s) (length (templates_of s)) c.args.place c.args.len (lists s) fits (omega (arith, w.if-len-gt-LONGEST.true))
     ],
     untouched_same s)
@@ -33,7 +33,7 @@ returns-in-Err-clause-says g c =
     let s = c.args.self.now in
     let q = c.add-added.new.parser in
     let back = subst (λ n. CutBack q.reader n c.cut_back.new.self.reader) c.lengths-old.ensures c.cut_back.ensures in
-    loads_not s _ q c.add-added.ensures.grew back c.in-Err.ensures.not known c.args.place c.args.len c.in-Err.stop (omega (arith, c.if-place-whole.false, c.if-len-whole.false)) (omega (arith, c.if-template-ge-TEMPLATES.false, c.len-template.ensures, s.templates.ok.0)) (omega (arith, c.if-len-gt-LONGEST.false)) c.in-Err.ensures.says
+    loads_not s _ q c.add-added.ensures.grew back c.in-Err.ensures.not known c.args.place c.args.len c.in-Err.stop (omega (arith, c.if-place-whole.false, c.if-len-whole.false)) (omega (arith, c.if-template-ge-TEMPLATES.false, c.template_count-template.ensures)) (omega (arith, c.if-len-gt-LONGEST.false)) c.in-Err.ensures.says
 
 pub invariant_of-self-in_default : goal.invariant_of-self-in_default
 invariant_of-self-in_default g c =
@@ -47,4 +47,4 @@ returns-clause-says g c =
     let known = (g.B.Bank.meaning c.args.bank.now).known in
     let s = c.args.self.now in
     let q = c.add-added.new.parser in
-    loads_one s q (Rattle.std.proofs.Common.vec_items c.add-added.new.templates) known c.args.place c.args.len c.add-added.ensures.grew c.in_default.ensures.added c.in_default.ensures.says c.len-template.result _ (c.len-template.ensures ∙ s.templates.ok.0) refl refl (omega (arith, c.if-place-whole.false, c.if-len-whole.false)) (omega (arith, c.if-template-ge-TEMPLATES.false, c.len-template.ensures, s.templates.ok.0)) (omega (arith, c.if-len-gt-LONGEST.false))
+    loads_one s q (Rattle.std.proofs.Common.vec_items c.add-added.new.templates) known c.args.place c.args.len c.add-added.ensures.grew c.in_default.ensures.added c.in_default.ensures.says c.template_count-template.result _ c.template_count-template.ensures refl refl (omega (arith, c.if-place-whole.false, c.if-len-whole.false)) (omega (arith, c.if-template-ge-TEMPLATES.false, c.template_count-template.ensures)) (omega (arith, c.if-len-gt-LONGEST.false))

@@ -10,5 +10,5 @@ invariant_of-result c =
     record {
       few_names = omega (arith, c.new.ensures.len);
       few_cycles = omega (arith, c.new-2.ensures.len);
-      stands = ap (standing c.args.source.now) (c.at.ensures.tokens ∙ ends c.args.source.now (length c.args.source.now) (omega arith));
+      stands = ap (standing c.args.text.now) (c.at.ensures.tokens ∙ ends c.args.text.now (length c.args.text.now) (omega arith));
     }
