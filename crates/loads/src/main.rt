@@ -29,6 +29,9 @@ fn loads(rt: &HostRuntime) -> anyhow::Result<()> {
         }
         nodes = sheet.node_count();
     }
-    println!(rt; "{count} loads of {} bytes, {accepted} accepted, {nodes} nodes each", text.len())?;
+    println!(rt;
+        "{count} loads of {} bytes, {accepted} accepted, {nodes} nodes each",
+        text.len()
+    )?;
     Ok(())
 }
