@@ -1,4 +1,6 @@
 pub mod Bounds
+pub mod Excerpt
+pub mod Load
 pub mod Names
 pub mod Quote
 pub mod Show
