@@ -1,4 +1,4 @@
-use Rattle.std.proofs.Common.{◌≡◌, ◌-◌, ◌<◌, true, length, slice_index_or, arith, rules}
+use Rattle.std.proofs.Common.{◌≡◌, ◌-◌, ◌<◌, true, slice_index_or, arith, rules}
 use Rattle.ticket.specs.Excerpt.{is_end}
 use Rattle.ticket.proofs.Lines.{last}
 use Rattle.ticket.proofs.excerpt.last_line.Goals as goal
