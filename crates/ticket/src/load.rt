@@ -1,7 +1,9 @@
 //! Templates loaded into the sheet of a job.
 
-ghost use Rattle.std.specs.Prelude.{◌≡◌, ◌++◌, IfOk, OnOk, length};
+ghost use Rattle.std.specs.Prelude.{◌≡◌, ◌-◌, ◌++◌, IfOk, OnOk, length};
+ghost use Rattle.sheet.specs.Sheets.{lists, Loads};
 ghost use Rattle.ticket.specs.Load.{load_lines, answer_words, loaded_words, refused_words, refusal_words};
+ghost use Rattle.ticket.specs.Loaded.{known, number};
 
 use crate::excerpt::{Spot, push_excerpt, push_plain, spot_at};
 use crate::filter::bank_of;
@@ -41,7 +43,10 @@ fn answer(
     sheet: &mut Sheet<'_>,
     phrases: TrayParts<'_>,
     part: Part,
-) -> Result<Loaded, Stop> {
+) -> Result<Loaded, Stop>
+    ensures loads { Loads known part.place part.len sheet.old (number result) sheet.new }
+    ensures nodes { IfOk result (λ l. l.nodes ≡ (lists sheet.new).nodes - (lists sheet.old).nodes) }
+{
     let mut bank = bank_of(heap, phrases).or(Err(Stop::Memory))?;
     let before = sheet.node_count();
     let template = sheet.load(part.place, part.len, &mut bank)?;
