@@ -5,3 +5,7 @@ pub mod Setting
 pub mod Arming
 pub mod Opening
 pub mod Beginning
+pub mod GrammarJudging
+pub mod GrammarReads
+pub mod GrammarOnly
+pub mod GrammarGroups

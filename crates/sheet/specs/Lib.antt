@@ -5,3 +5,5 @@ pub mod Opening
 pub mod Parsing
 pub mod Standing
 pub mod Answers
+pub mod Grammar
+pub mod GrammarLaws
