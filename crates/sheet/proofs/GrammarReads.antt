@@ -233,7 +233,7 @@ derives_filter m =
 abbrev pub Wholly : {A : Type 0} → (Env → A → Words → Type 0) → Form A
 Wholly D e y a b = D e y a × (b ≡ over)
 
-finished_derives : {A : Type 0} (x : A) → Derives (finished next λ u. pure x) (λ e y a b. (y ≡ x) × (a ≡ over) × (b ≡ over))
+pub finished_derives : {A : Type 0} (x : A) → Derives (finished next λ u. pure x) (λ e y a b. (y ≡ x) × (a ≡ over) × (b ≡ over))
 finished_derives x = derives_next {E = λ u e y a b. (a ≡ b) × (y ≡ x)} (λ e u y a b c h k. (k.1, h.0, sym k.0 ∙ h.1)) finished (λ u. pure x) derives_finished (λ u. derives_pure x (λ e a. (refl, refl)))
 
 -- filters behind a bar that was there or not

@@ -9,3 +9,5 @@ pub mod GrammarJudging
 pub mod GrammarReads
 pub mod GrammarOnly
 pub mod GrammarGroups
+pub mod GrammarTagging
+pub mod GrammarTagsOnly

@@ -6,4 +6,6 @@ pub mod Parsing
 pub mod Standing
 pub mod Answers
 pub mod Grammar
+pub mod GrammarTags
+pub mod GrammarElements
 pub mod GrammarLaws
