@@ -11,3 +11,5 @@ pub mod GrammarOnly
 pub mod GrammarGroups
 pub mod GrammarTagging
 pub mod GrammarTagsOnly
+pub mod GrammarDerived
+pub mod GrammarOneWay

@@ -1,10 +1,17 @@
 -- What holds of the grammar.
-use Rattle.std.specs.Prelude.{◌≡◌, ℕ, Bool, true, false, List, codes}
+use Rattle.std.specs.Prelude.{◌≡◌, ℕ, Bool, true, false, List, Some, None, codes, Option}
 use Rattle.cutter.specs.Words.{Words, tokens}
+use Rattle.cutter.specs.Cuts.{Cut, done as no_pieces}
 use Rattle.tree.specs.Expressions.{boolean_literal}
 use Rattle.tree.specs.Conditions.{Test, exists, Condition, only, both, either}
+use Rattle.tree.specs.Elements.{Tree}
 use Rattle.arguments.specs.Judging.{CycleName, Lists}
+use Rattle.sheet.specs.Steps.{gives}
+use Rattle.sheet.specs.Names.{known_as}
+use Rattle.sheet.specs.Blocks.{Tag}
+use Rattle.sheet.specs.Parsing.{Elements, elements}
 use Rattle.sheet.specs.Grammar.{Env, NameIs, CycleNameIs, ConditionIs}
+use Rattle.sheet.specs.GrammarElements.{TagAt, ElementsAre}
 
 abbrev pub env_of : Lists → Env
 env_of l = record { names = l.names; cycles = l.cycles }
@@ -34,3 +41,24 @@ abbrev pub GroupsRight : Type 0
 GroupsRight =
     (e : Env) →
     ConditionIs e grouped (tokens (codes "false and false or true")) × (Apart e → (c : Condition) → ConditionIs e c (tokens (codes "false and false or true")) → c ≡ grouped)
+
+-- the tag that ends elements begins at f, and d is behind it; none at the end of the part
+abbrev pub EndsBy : List ℕ → Option Tag → Cut → Cut → Type 0
+EndsBy source None f d = (f ≡ no_pieces) × (d ≡ no_pieces)
+EndsBy source (Some t) f d = (known_as t.name.bytes ≡ None) × TagAt source t.mark t.name.bytes t.ahead f d
+
+-- what is read is derived, with the names that there are then; these are those that there were, and perhaps more, still apart
+abbrev pub Derived : Type 0
+Derived =
+    (source : List ℕ) (end n r : ℕ) (c d : Cut) (l m : Lists) (y : Elements) → elements source end n r c l ≡ gives y d m →
+    (f : Cut) × ElementsAre (env_of m) source y.tree c f × EndsBy source y.ending f d × Kept (env_of l) (env_of m) × (Apart (env_of l) → Apart (env_of m))
+
+-- pieces are a writing of one tree only
+abbrev pub OneWay : Type 0
+OneWay =
+    (e : Env) → Apart e → (source : List ℕ) (t u : Tree) (c d f : Cut) → ElementsAre e source t c d → ElementsAre e source u c f → (t ≡ u) × (d ≡ f)
+
+-- so what is read is the only tree that the pieces are a writing of
+abbrev pub OnlyTree : Type 0
+OnlyTree =
+    (source : List ℕ) (end n r : ℕ) (c d f : Cut) (l m : Lists) (y : Elements) (t : Tree) → elements source end n r c l ≡ gives y d m → Apart (env_of l) → ElementsAre (env_of m) source t c f → t ≡ y.tree
