@@ -111,7 +111,7 @@ first_derives m None = derives_refuse 5 m
 first_derives m (Some w) = derives_as (named_so w (bare (read w))) (named_so_derives w (bare (read w))) (λ e y a b h. (h.0, ap Some (sym h.1), subst (λ z. (n : List ℕ) × (bare (read z) ≡ Some n)) (sym h.1) h.2))
 
 -- a bare name is its token as written
-as_written : (w : Seen) (n : List ℕ) → read w ≡ is_name n → n ≡ w.bytes
+pub as_written : (w : Seen) (n : List ℕ) → read w ≡ is_name n → n ≡ w.bytes
 as_written w n h = subst (λ r. Rattle.cutter.specs.Tokens.Parts w.place w.bytes r) h (reads_parts w.place w.bytes)
 
 name_is : (w : Seen) (n : List ℕ) → bare (read w) ≡ Some n → TheWord w.bytes w

@@ -13,3 +13,6 @@ pub mod GrammarTagging
 pub mod GrammarTagsOnly
 pub mod GrammarDerived
 pub mod GrammarOneWay
+pub mod GrammarFine
+pub mod GrammarTagsFine
+pub mod GrammarAccepted

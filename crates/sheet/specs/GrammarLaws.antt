@@ -1,12 +1,12 @@
 -- What holds of the grammar.
-use Rattle.std.specs.Prelude.{◌≡◌, ℕ, Bool, true, false, List, Some, None, codes, Option}
+use Rattle.std.specs.Prelude.{◌≡◌, ℕ, ◌<◌, ◌⊎◌, Bool, true, false, List, Some, None, codes, Option}
 use Rattle.cutter.specs.Words.{Words, tokens}
 use Rattle.cutter.specs.Cuts.{Cut, done as no_pieces}
 use Rattle.tree.specs.Expressions.{boolean_literal}
 use Rattle.tree.specs.Conditions.{Test, exists, Condition, only, both, either}
 use Rattle.tree.specs.Elements.{Tree}
 use Rattle.arguments.specs.Judging.{CycleName, Lists}
-use Rattle.sheet.specs.Steps.{gives}
+use Rattle.sheet.specs.Steps.{fails, gives, pieces}
 use Rattle.sheet.specs.Names.{known_as}
 use Rattle.sheet.specs.Blocks.{Tag}
 use Rattle.sheet.specs.Parsing.{Elements, elements}
@@ -62,3 +62,9 @@ OneWay =
 abbrev pub OnlyTree : Type 0
 OnlyTree =
     (source : List ℕ) (end n r : ℕ) (c d f : Cut) (l m : Lists) (y : Elements) (t : Tree) → elements source end n r c l ≡ gives y d m → Apart (env_of l) → ElementsAre (env_of m) source t c f → t ≡ y.tree
+
+-- what is written up to the end of the part is read up to there, or refused by a limit
+abbrev pub Accepted : Type 0
+Accepted =
+    (e : Env) (source : List ℕ) (end n r : ℕ) (c : Cut) (l : Lists) (t : Tree) → pieces c < n → ElementsAre e source t c no_pieces →
+    ((p : ℕ) × (elements source end n r c l ≡ fails 2 p)) ⊎ ((y : Elements) × (m : Lists) × (elements source end n r c l ≡ gives y no_pieces m) × (y.ending ≡ None))
