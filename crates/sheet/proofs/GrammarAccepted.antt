@@ -1,15 +1,14 @@
 -- What is written by the grammar of elements is not refused but by a limit.
-use Rattle.std.proofs.Common.{◌≡◌, ℕ, zero, suc, ◌+◌, ◌-◌, ◌<◌, ◌≤◌, Bool, true, false, cond, ◌⊎◌, inl, inr, List, Some, None, codes, Option, refl, sym, ap, ◌∙◌, subst, arith}
+use Rattle.std.proofs.Common.{◌≡◌, ℕ, zero, suc, ◌-◌, ◌<◌, ◌≤◌, ◌⊎◌, inl, inr, List, Some, None, codes, Option, refl, sym, ap, ◌∙◌, subst, arith}
 use Rattle.tray.specs.Parts.{same_text}
-use Rattle.cutter.specs.Words.{Words, over, wrong, word, verdict}
-use Rattle.cutter.specs.Tokens.{is_name}
-use Rattle.cutter.specs.Cuts.{Cut, done as no_pieces, unclosed, text, mark}
+use Rattle.cutter.specs.Words.{Words, over, verdict}
+use Rattle.cutter.specs.Cuts.{Cut, done as no_pieces, mark}
 use Rattle.cutter.specs.declared.state.Kind.TheVariants.{Tag as is_tag, Output as is_output}
 use Rattle.tree.specs.Expressions.{Expr, Chain}
 use Rattle.tree.specs.Conditions.{Condition}
-use Rattle.tree.specs.Elements.{Leaf, plain, output, Block, case_block, Guard, holds, equals_one, always, Tree, done, leaf, block, Arms, no_arms, arm}
-use Rattle.arguments.specs.Judging.{Lists, State, state, Verdict, refuses, passes, Judge, ◌next◌, pure, Seen, token_if, finished, noted}
-use Rattle.arguments.specs.Values.{read, bare}
+use Rattle.tree.specs.Elements.{Leaf, plain, Block, case_block, Guard, holds, equals_one, always, Tree, done, leaf, block, Arms, no_arms, arm}
+use Rattle.arguments.specs.Judging.{Lists, state, Verdict, Judge, pure, Seen, token_if, noted}
+use Rattle.arguments.specs.Values.{bare}
 use Rattle.arguments.specs.Marks.{inside}
 use Rattle.tags.specs.Leaves.{output_of}
 use Rattle.tags.specs.Conditions.{condition}
@@ -21,18 +20,17 @@ use Rattle.sheet.specs.declared.names.Block as code
 use Rattle.sheet.specs.declared.names.Block.TheVariants as kind
 use Rattle.sheet.specs.declared.names.Known.{Known}
 use Rattle.sheet.specs.declared.names.Known.TheVariants as known
-use Rattle.sheet.specs.declared.names.Closer.{Closer}
 use Rattle.sheet.specs.declared.names.Closer.TheVariants as closing
-use Rattle.sheet.specs.Blocks.{Tag, tag, with_node, behind_node, opens, leaf_tag, Opened, with_arm, a_case, opened, end_tag, Following, the_end, an_else, an_arm, ended, closed, only_end, in_if, in_case, in_for, following, follows, closes}
-use Rattle.sheet.specs.Parsing.{Found, a_leaf, a_block, other, Elements, Inner, elements_are, a_text, an_output, a_simple, within, inner, arm_of, last_of, continued, rest_of, dropped, filled, block_at, tag_by, named, a_tag, marked, cut_whole, a_mark, behind, elements, rests}
+use Rattle.sheet.specs.Blocks.{Tag, tag, with_node, behind_node, opens, leaf_tag, Opened, with_arm, a_case, opened, end_tag, Following, the_end, an_else, an_arm, closed, in_if, in_case, following, follows, closes}
+use Rattle.sheet.specs.Parsing.{Found, a_leaf, a_block, other, Elements, Inner, elements_are, a_text, an_output, a_simple, within, inner, arm_of, last_of, continued, rest_of, dropped, filled, block_at, tag_by, named, a_tag, cut_whole, a_mark, behind, elements, rests}
 use Rattle.sheet.specs.Grammar.{Env, Begins, TheWord, ValueIs, ChainIs, ConditionIs, WhensAre}
 use Rattle.sheet.specs.GrammarTags.{SimpleIs, OpensIs, FurtherIs, ElseIs}
 use Rattle.sheet.specs.GrammarElements.{TagAt, LeafIs, is_text, is_chain, is_simple, OtherTag, Ends, EndIs, ElementsAre, no_more, BlockIs, ArmsAre}
 use Rattle.sheet.specs.GrammarElements as grammar
-use Rattle.sheet.specs.GrammarLaws.{EndsBy, Accepted}
+use Rattle.sheet.specs.GrammarLaws.{EndsBy, Accepted, NotWritten}
 use Rattle.sheet.proofs.GrammarDerived.{as_written}
 use Rattle.sheet.proofs.GrammarOneWay.{tag_one}
-use Rattle.sheet.proofs.GrammarFine.{Fine, limited, fine, Any, fine_went, fine_next, fine_pure, fine_to, fine_if_some, fine_finished, fine_end, fine_made, fine_condition, fine_whens}
+use Rattle.sheet.proofs.GrammarFine.{Fine, limited, fine, Any, fine_next, fine_pure, fine_if_some, fine_finished, fine_end, fine_condition, fine_whens}
 use Rattle.sheet.proofs.GrammarTagsFine.{fine_so, fine_leaf, fine_output, fine_with_node, fine_behind_node, fine_opens, IsArm, IsCase, fine_opened, fine_case}
 
 -- a limit is passed; or something is given, of which P holds together with the pieces that are left
@@ -449,3 +447,10 @@ accepted e source end n r c l t s h = by (elements_fare e source end h n r l s)
         ((p : ℕ) × (elements source end n r c l ≡ fails 2 p)) ⊎ ((y : Elements) × (m : Lists) × (elements source end n r c l ≡ gives y no_pieces m) × (y.ending ≡ None))
     by (refused p i) = inl (p, i)
     by (fares y d m i k) = let (u, v) = ends_by e source end y.ending d k in inr (y, m, i ∙ ap (λ z. gives y z m) u, v)
+
+pub not_written : NotWritten
+not_written source end n r c l k p s h no_limit e t i = by (accepted e source end n r c l t s i)
+  where
+    by : ((q : ℕ) × (elements source end n r c l ≡ fails 2 q)) ⊎ ((y : Elements) × (m : Lists) × (elements source end n r c l ≡ gives y no_pieces m) × (y.ending ≡ None)) → ⊥
+    by (inl (q, j)) = let o : fails k p ≡ fails 2 q = sym h ∙ j in no_limit cc
+    by (inr (y, m, j, o)) = let q : fails k p ≡ gives y no_pieces m = sym h ∙ j in cc

@@ -1,23 +1,23 @@
 -- What the parser gives is derived by the grammar.
 use Rattle.std.proofs.Common.{◌≡◌, ℕ, zero, suc, ◌-◌, Bool, true, false, cond, ltb, inl, inr, List, Some, None, codes, Option, refl, sym, ap, ◌∙◌, subst}
 use Rattle.tray.specs.Parts.{same_text}
-use Rattle.cutter.specs.Words.{Words, over, wrong, word, verdict}
+use Rattle.cutter.specs.Words.{Words, over, word, verdict}
 use Rattle.cutter.specs.Tokens.{Reading, is_name, token_of}
 use Rattle.cutter.specs.Cuts.{Cut, done as no_pieces, unclosed, text, mark}
 use Rattle.cutter.specs.declared.state.Kind.{Kind}
 use Rattle.cutter.specs.declared.state.Kind.TheVariants.{Tag as is_tag, Output as is_output}
 use Rattle.cutter.proofs.Parts.{reads_parts}
-use Rattle.tree.specs.Expressions.{Expr, Chain}
+use Rattle.tree.specs.Expressions.{Chain}
 use Rattle.tree.specs.Conditions.{Condition}
-use Rattle.tree.specs.Elements.{Leaf, plain, output, Block, case_block, Guard, always, Tree, done, leaf, block, Arms, no_arms, arm, if_block, holds, fails as does_not_hold, equals_one, has_items, capture_block, ifchanged_block}
-use Rattle.arguments.specs.Judging.{Lists, State, state, Verdict, refuses, passes, Judge, ◌next◌, pure, refuse, Seen, token_if, finished, noted, room_at, one_more}
+use Rattle.tree.specs.Elements.{plain, output, case_block, Guard, always, Tree, done, leaf, block, Arms, no_arms, arm, if_block, holds, fails as does_not_hold, equals_one, has_items, capture_block, ifchanged_block}
+use Rattle.arguments.specs.Judging.{Lists, State, state, Verdict, refuses, passes, Judge, ◌next◌, pure, Seen, token_if, finished, noted, room_at, one_more}
 use Rattle.arguments.specs.Values.{read, bare, value}
 use Rattle.arguments.specs.Marks.{inside}
 use Rattle.tags.specs.declared.stdlib.blocks.for_block.Loop.TheVariants.{For, Tablerow}
 use Rattle.tags.specs.Leaves.{output_of, only_target}
 use Rattle.tags.specs.Conditions.{condition}
 use Rattle.tags.specs.Whens.{whens}
-use Rattle.tags.specs.Loops.{Header, header, for_of, tablerow_of}
+use Rattle.tags.specs.Loops.{header, for_of, tablerow_of}
 use Rattle.sheet.specs.Steps.{Outcome, fails, gives, Step, followed, ◌then◌, give, fail, settled, judged}
 use Rattle.sheet.specs.Names.{known_as, closer, named_so, first_token, tag_name}
 use Rattle.sheet.specs.declared.names.Simple.{Simple}
@@ -30,13 +30,13 @@ use Rattle.sheet.specs.declared.names.Closer.{Closer}
 use Rattle.sheet.specs.declared.names.Closer.TheVariants as closing
 use Rattle.sheet.specs.Blocks.{Tag, tag, with_node, held, behind_node, opens, leaf_tag, Opened, with_arm, a_case, opened, opened_if, opened_unless, opened_case, opened_for, opened_tablerow, opened_capture, opened_ifchanged, end_tag, Following, the_end, an_else, an_arm, ended, unknown, closed, only_end, in_if, in_case, in_for, following, follows, closes}
 use Rattle.sheet.specs.Parsing.{Found, a_leaf, a_block, other, Elements, Inner, elements_are, a_text, an_output, a_simple, within, inner, arm_of, last_of, continued, rest_of, dropped, filled, block_at, tag_by, named, a_tag, marked, cut_whole, a_mark, behind, elements, rests}
-use Rattle.sheet.specs.Grammar.{Env, Begins, TheWord, ValueIs, TargetIs, ChainIs, ConditionIs, WhensAre}
-use Rattle.sheet.specs.GrammarTags.{HeaderIs, SimpleIs, OpensIs, FurtherIs, ElseIs}
+use Rattle.sheet.specs.Grammar.{Env, Begins, TheWord, ValueIs, ChainIs, ConditionIs}
+use Rattle.sheet.specs.GrammarTags.{SimpleIs, OpensIs, FurtherIs, ElseIs}
 use Rattle.sheet.specs.GrammarElements.{TagAt, LeafIs, is_text, is_chain, is_simple, EndIs, ElementsAre, no_more, BlockIs, ArmsAre}
 use Rattle.sheet.specs.GrammarElements as grammar
-use Rattle.sheet.specs.GrammarLaws.{env_of, Kept, Apart, EndsBy, Derived}
+use Rattle.sheet.specs.GrammarLaws.{env_of, Kept, EndsBy, Derived}
 use Rattle.sheet.proofs.GrammarJudging.{Form, Grew, grew_refl, grew_then, kept_refl, kept_then, Has, Derives, derives_pure, derives_refuse, derives_next, derives_as, derives_cond, Still, derives_one_more, derives_room_at, derives_finished, same_is}
-use Rattle.sheet.proofs.GrammarReads.{bare_is, begins_next, begins_over, Value, derives_value, Wholly, finished_derives, derives_condition, derives_whens}
+use Rattle.sheet.proofs.GrammarReads.{bare_is, begins_next, begins_over, derives_value, Wholly, finished_derives, derives_condition, derives_whens}
 use Rattle.sheet.proofs.GrammarTagging.{NextAny, derives_next_any, derives_made, derives_header, derives_cycle, derives_only_target, derives_assign, derives_increment, derives_decrement, derives_break, derives_continue, derives_output}
 
 -- what pieces are: D e y c d says that the pieces from c up to d are a writing of y

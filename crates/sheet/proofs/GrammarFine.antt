@@ -1,16 +1,16 @@
 -- What is written by the grammar of values, chains and conditions is not refused but by a limit.
-use Rattle.std.proofs.Common.{◌≡◌, ℕ, zero, suc, ◌+◌, Bool, true, false, cond, ◌&&◌, ◌||◌, ◌⊎◌, inl, inr, eqb, leb, ltb, List, [], ◌∷◌, length, Some, None, codes, Option, refl, sym, ap, ◌∙◌, subst}
+use Rattle.std.proofs.Common.{◌≡◌, ℕ, zero, suc, ◌+◌, Bool, true, false, cond, ◌&&◌, ◌||◌, ◌⊎◌, inl, inr, leb, ltb, List, [], ◌∷◌, length, Some, None, codes, Option, refl, sym, ap, ◌∙◌, subst}
 use Rattle.std.proofs.lemmas.Bool.Decides.{Decides-eqb}
 use Rattle.rows.specs.First.{first_from}
 use Rattle.tray.specs.Parts.{same_text}
 use Rattle.tray.specs.Sound.{reserved}
 use Rattle.cutter.specs.declared.lengths.Symbol.{Symbol}
 use Rattle.cutter.specs.declared.lengths.Symbol.TheVariants as symbol
-use Rattle.cutter.specs.Words.{Words, over, wrong, word}
+use Rattle.cutter.specs.Words.{Words, over, word}
 use Rattle.cutter.specs.Tokens.{Reading, is_nil, is_boolean, is_number, is_text, is_name, is_path, is_range, is_symbol, token_of}
 use Rattle.cutter.specs.Paths.{PlacedStep, steps_of}
 use Rattle.tree.specs.Expressions.{Head, Expr, Filter, Chain, Row, row_from}
-use Rattle.tree.specs.Conditions.{Comparison, equals, differs, is_less, is_more, at_most, at_least, contains, Test, exists, compares, Condition, only, both, either}
+use Rattle.tree.specs.Conditions.{Test, exists, compares, Condition, only, both, either}
 use Rattle.arguments.specs.declared.words.Special.{Special}
 use Rattle.arguments.specs.declared.words.Special.TheVariants.{Forloop, Tablerowloop, Barred, Free}
 use Rattle.arguments.specs.Judging.{CycleName, Lists, State, state, Verdict, refuses, passes, Judge, went, ◌next◌, pure, refuse, Seen, seen, token, taken, token_if, taken_if, none_left, finished, right_or, expect, noted, room_at, one_more, with_name, entered, enter, with_asked, ask, with_cycle, same_cycle, cycle_entered, enter_cycle}
@@ -18,8 +18,8 @@ use Rattle.arguments.specs.Values.{read, special, headed, a_path, value_as, is_v
 use Rattle.tags.specs.declared.stdlib.blocks.if_block.Joint.{Joint}
 use Rattle.tags.specs.declared.stdlib.blocks.if_block.Joint.TheVariants.{And, Or}
 use Rattle.tags.specs.Conditions.{comparison_in, comparison, first_as, first, compared, tested, test, joint, joining, joined, condition_of, condition}
-use Rattle.tags.specs.Whens.{is_separator, separator, listed, whens_of, whens}
-use Rattle.sheet.specs.Grammar.{Env, NameIs, Begins, TheWord, TheSymbol, HeadBy, ReadsAs, ValueIs, RowReads, RowIs, TargetIs, SettingIs, ArgumentIs, FilterIs, FiltersAre, ChainIs, ComparisonIs, TestIs, ConditionIs, WhensAre}
+use Rattle.tags.specs.Whens.{separator, listed, whens_of, whens}
+use Rattle.sheet.specs.Grammar.{Env, Begins, TheWord, TheSymbol, HeadBy, ReadsAs, ValueIs, RowReads, RowIs, TargetIs, SettingIs, ArgumentIs, FilterIs, FiltersAre, ChainIs, TestIs, ConditionIs, WhensAre}
 use Rattle.sheet.proofs.GrammarJudging.{is_same}
 use Rattle.sheet.proofs.GrammarOnly.{compared_is}
 

@@ -1,24 +1,20 @@
 -- Pieces are a writing of one tree only.
-use Rattle.std.proofs.Common.{◌≡◌, ℕ, ◌⊎◌, inl, inr, List, Some, None, codes, Option, refl, sym, ap, ap₂, ◌∙◌, subst}
+use Rattle.std.proofs.Common.{◌≡◌, ℕ, inl, inr, List, Some, None, codes, Option, refl, sym, ap, ap₂, ◌∙◌, subst}
 use Rattle.tray.specs.Parts.{same_text}
 use Rattle.cutter.specs.Words.{Words, over}
-use Rattle.cutter.specs.Cuts.{Cut, done as no_pieces, unclosed, text, mark}
+use Rattle.cutter.specs.Cuts.{Cut, text, mark}
 use Rattle.cutter.specs.declared.state.Kind.TheVariants.{Tag as is_tag, Output as is_output}
-use Rattle.tree.specs.Expressions.{Expr, Chain}
-use Rattle.tree.specs.Elements.{Leaf, plain, output, Block, case_block, Guard, always, Tree, done, leaf, block, Arms, no_arms, arm}
+use Rattle.tree.specs.Elements.{Leaf, plain, output, Block, case_block, Guard, always, Tree, leaf, block, Arms, no_arms, arm}
 use Rattle.arguments.specs.Marks.{inside}
-use Rattle.sheet.specs.declared.names.Simple.{Simple}
 use Rattle.sheet.specs.declared.names.Block as code
 use Rattle.sheet.specs.declared.names.Block.TheVariants as kind
 use Rattle.sheet.specs.declared.names.Known.{Known}
 use Rattle.sheet.specs.declared.names.Known.TheVariants as known
 use Rattle.sheet.specs.Names.{known_as}
 use Rattle.sheet.specs.Blocks.{end_tag}
-use Rattle.sheet.specs.Steps.{gives}
-use Rattle.sheet.specs.Parsing.{Elements}
 use Rattle.sheet.specs.Grammar.{Env, Begins, TheWord, ValueIs, ChainIs}
-use Rattle.sheet.specs.GrammarTags.{SimpleIs, OpensIs, FurtherIs, ElseIs}
-use Rattle.sheet.specs.GrammarElements.{TagAt, LeafIs, is_text, is_chain, is_simple, OtherTag, Ends, EndIs, ElementsAre, no_more, a_leaf, a_block, BlockIs, opens, opens_case, ArmsAre, the_end, an_else, further}
+use Rattle.sheet.specs.GrammarTags.{SimpleIs, OpensIs, FurtherIs}
+use Rattle.sheet.specs.GrammarElements.{TagAt, LeafIs, is_text, is_chain, is_simple, Ends, ElementsAre, no_more, a_leaf, a_block, BlockIs, opens, opens_case, ArmsAre, the_end, an_else, further}
 use Rattle.sheet.specs.GrammarLaws.{env_of, Apart, OneWay, OnlyTree}
 use Rattle.sheet.proofs.GrammarOnly.{same_begins, other_word, names_same, value_one, chain_one}
 use Rattle.sheet.proofs.GrammarTagsOnly.{simple_one, opens_one, further_one}

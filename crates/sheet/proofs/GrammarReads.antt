@@ -183,9 +183,6 @@ derives_target m =
     (token m) (λ w. new_name w.place (bare (read w))) (derives_token m) (λ w. new_derives w.place (bare (read w)))
 
 -- chains
-abbrev pub Argument : Form (Option Expr)
-Argument e o a b = ArgumentIs e o a b
-
 -- what stands behind a colon that was there or not
 abbrev pub Behind : Option ℕ → Form (Option Expr)
 Behind None e o a b = (o ≡ None) × (a ≡ b)

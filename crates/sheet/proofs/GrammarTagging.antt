@@ -1,14 +1,13 @@
 -- What the judgements of tags have read.
-use Rattle.std.proofs.Common.{◌≡◌, ℕ, zero, suc, Bool, true, false, cond, ◌⊎◌, inl, inr, List, [], ◌∷◌, Some, None, codes, Option, refl, sym, ap, ◌∙◌, subst}
+use Rattle.std.proofs.Common.{◌≡◌, ℕ, zero, suc, Bool, true, false, cond, ◌⊎◌, inl, inr, List, [], ◌∷◌, Some, None, codes, Option, refl, sym, ◌∙◌, subst}
 use Rattle.tray.specs.Parts.{same_text}
 use Rattle.cutter.specs.declared.lengths.Symbol.{Symbol}
 use Rattle.cutter.specs.declared.lengths.Symbol.TheVariants as symbol
 use Rattle.cutter.specs.Words.{Words, over, wrong, word}
 use Rattle.tree.specs.Expressions.{Expr, Chain, Row}
-use Rattle.tree.specs.Conditions.{Condition}
-use Rattle.tree.specs.Elements.{Leaf, output, assign, increment, decrement, cycle, break, continue, Block, if_block, capture_block, ifchanged_block, Guard, holds, fails, equals_one, has_items, always}
+use Rattle.tree.specs.Elements.{Leaf, output, assign, increment, decrement, cycle, break, continue}
 use Rattle.arguments.specs.Judging.{Lists, State, state, passes, Judge, ◌next◌, pure, refuse, Seen, seen, token, token_if, taken_if, finished, expect, enter_cycle}
-use Rattle.arguments.specs.Values.{read, value_as, bare, value, target, is_the_word, is_the_symbol, symbol_at, chain, a_row, too_many}
+use Rattle.arguments.specs.Values.{read, value_as, bare, value, target, is_the_word, is_the_symbol, symbol_at, chain, a_row}
 use Rattle.arguments.specs.Tables.{given_name, made_name}
 use Rattle.tags.specs.declared.stdlib.blocks.for_block.Loop.{Loop}
 use Rattle.tags.specs.declared.stdlib.blocks.for_block.Loop.TheVariants.{For, Tablerow}
@@ -16,12 +15,12 @@ use Rattle.tags.specs.declared.stdlib.blocks.for_block.Attribute.{Attribute}
 use Rattle.tags.specs.declared.stdlib.blocks.for_block.Attribute.TheVariants.{Cols, Limit, Offset, Reversed}
 use Rattle.tags.specs.Cycles.{Written, written, listed, value_at, none_more, values_of, given, enter_given, joined, values_in, named, made, unnamed, cycle_by, cycle_tag}
 use Rattle.tags.specs.Leaves.{output_of, assign_tag, only_target, increment_tag, decrement_tag, break_tag, continue_tag}
-use Rattle.tags.specs.Loops.{Attributes, no_attributes, own, attribute_named, attribute_of, setting, with_attribute, right_attribute, attribute_at, attributes_of, count, attributes, Header, header, for_of, tablerow_of}
+use Rattle.tags.specs.Loops.{Attributes, no_attributes, own, attribute_named, attribute_of, setting, with_attribute, right_attribute, attribute_at, attributes_of, count, attributes, Header, header}
 use Rattle.sheet.specs.declared.names.Simple.TheVariants as simple
-use Rattle.sheet.specs.Grammar.{Env, NameIs, CycleNameIs, Begins, TheWord, TheSymbol, ReadsAs, ValueIs, RowIs, TargetIs, SettingIs, ChainIs, ConditionIs, WhensAre}
-use Rattle.sheet.specs.GrammarTags.{word_of, BelongsTo, Sets, AttributesAre, HeaderIs, CommaOrEnd, WrittenIs, ListIs, GivenIs, NamedCycleIs, UnnamedCycleIs, CycleIs, AssignIs, SimpleIs, OpensIs, FurtherIs, ElseIs}
-use Rattle.sheet.proofs.GrammarJudging.{Form, Has, passed, grew_refl, Derives, derives_pure, derives_refuse, derives_next, derives_as, derives_cond, Next, derives_token, NextIf, derives_token_if, AtEnd, derives_finished, Still, One, derives_expect, CycleNumbered, derives_enter_cycle, same_is}
-use Rattle.sheet.proofs.GrammarReads.{bare_is, word_is, symbol_is, symbol_at_is, derives_too_many, begins_as, begins_over, begins_next, Reads, derives_value_as, Value, derives_value, derives_row, Target, derives_target, Wholly, finished_derives, derives_chain}
+use Rattle.sheet.specs.Grammar.{Env, CycleNameIs, Begins, TheWord, TheSymbol, ReadsAs, RowIs, TargetIs, SettingIs, ChainIs}
+use Rattle.sheet.specs.GrammarTags.{word_of, BelongsTo, Sets, AttributesAre, HeaderIs, CommaOrEnd, WrittenIs, ListIs, GivenIs, CycleIs, AssignIs, SimpleIs}
+use Rattle.sheet.proofs.GrammarJudging.{Form, Has, passed, grew_refl, Derives, derives_pure, derives_refuse, derives_next, derives_as, derives_token, NextIf, derives_token_if, derives_expect, derives_enter_cycle, same_is}
+use Rattle.sheet.proofs.GrammarReads.{bare_is, word_is, symbol_is, symbol_at_is, derives_too_many, begins_as, begins_over, begins_next, derives_value_as, Value, derives_value, derives_row, derives_target, Wholly, finished_derives, derives_chain}
 
 -- the next token, if there is one
 abbrev pub NextAny : Form (Option Seen)
@@ -141,9 +140,6 @@ derives_header l m =
     (λ r. derives_made (made_header v r) (attributes l m) (all_derives l m) (λ e y a b i. (y, i.0, i.1, refl, i.2)))))
 
 -- cycles
-abbrev made_written : List ℕ → Expr → Written
-made_written b x = record { bytes = b; value = x }
-
 -- by the comma behind a value, if there is one
 abbrev pub ListedBy : Written → Option ℕ → Form (List Written)
 ListedBy x None e xs a b = (xs ≡ x ∷ []) × (a ≡ over) × (b ≡ over)

@@ -1,31 +1,30 @@
 -- What is written by the grammar of tags is not refused but by a limit.
-use Rattle.std.proofs.Common.{◌≡◌, ℕ, zero, suc, ◌+◌, ◌≤◌, ◌<◌, Bool, true, false, cond, ltb, ◌⊎◌, inl, inr, List, [], ◌∷◌, Some, None, codes, Option, refl, sym, ap, ◌∙◌, subst, arith}
+use Rattle.std.proofs.Common.{◌≡◌, ℕ, zero, suc, ◌≤◌, Bool, true, false, cond, ltb, inl, inr, List, [], ◌∷◌, Some, None, codes, Option, refl, sym, ap, ◌∙◌, subst, arith}
 use Rattle.tray.specs.Parts.{same_text}
 use Rattle.cutter.specs.declared.lengths.Symbol.TheVariants as symbol
-use Rattle.cutter.specs.Words.{Words, over, wrong, word}
-use Rattle.tree.specs.Expressions.{Expr, Chain, Row}
+use Rattle.cutter.specs.Words.{Words, over}
+use Rattle.tree.specs.Expressions.{Expr, Chain}
 use Rattle.tree.specs.Conditions.{Condition}
-use Rattle.tree.specs.Elements.{Leaf, output, assign, increment, decrement, cycle, break, continue, Block, if_block, capture_block, ifchanged_block, Guard, holds, fails, equals_one, has_items, always}
-use Rattle.arguments.specs.Judging.{Lists, State, state, Verdict, refuses, passes, Judge, ◌next◌, pure, refuse, Seen, token, token_if, finished, expect, room_at, one_more, enter_cycle}
-use Rattle.arguments.specs.Values.{read, value_as, bare, value, is_value, target, is_the_word, has_symbol, symbol_in, is_the_symbol, placed_if, symbol_at, chain, a_row, too_many}
+use Rattle.tree.specs.Elements.{Leaf, output, assign, increment, decrement, cycle, break, continue, Block, if_block, capture_block, ifchanged_block, Guard, holds, fails, has_items, always}
+use Rattle.arguments.specs.Judging.{Lists, State, state, Judge, ◌next◌, pure, refuse, Seen, token_if, expect, room_at, one_more, enter_cycle}
+use Rattle.arguments.specs.Values.{read, value_as, bare, value, target, is_the_word, has_symbol, symbol_in, is_the_symbol, symbol_at, chain, a_row}
 use Rattle.arguments.specs.Tables.{given_name, made_name}
 use Rattle.tags.specs.declared.stdlib.blocks.for_block.Loop.{Loop}
 use Rattle.tags.specs.declared.stdlib.blocks.for_block.Loop.TheVariants.{For, Tablerow}
 use Rattle.tags.specs.declared.stdlib.blocks.for_block.Attribute.{Attribute}
 use Rattle.tags.specs.declared.stdlib.blocks.for_block.Attribute.TheVariants.{Cols, Limit, Offset, Reversed}
-use Rattle.tags.specs.Cycles.{Written, written, listed, value_at, none_more, values_of, given, enter_given, joined, values_in, named, made, unnamed, cycle_by, cycle_tag}
+use Rattle.tags.specs.Cycles.{Written, written, listed, value_at, none_more, values_of, given, enter_given, joined, values_in, named, unnamed, cycle_by, cycle_tag}
 use Rattle.tags.specs.Leaves.{output_of, assign_tag, only_target, increment_tag, decrement_tag, break_tag, continue_tag}
 use Rattle.tags.specs.Conditions.{condition}
-use Rattle.tags.specs.Whens.{whens}
 use Rattle.tags.specs.Loops.{Attributes, no_attributes, attribute_named, attribute_of, setting, with_attribute, right_attribute, attribute_at, attributes_of, count, attributes, Header, header, for_of, tablerow_of}
 use Rattle.sheet.specs.declared.names.Simple.{Simple}
 use Rattle.sheet.specs.declared.names.Simple.TheVariants as simple
 use Rattle.sheet.specs.declared.names.Block as code
 use Rattle.sheet.specs.declared.names.Block.TheVariants as kind
 use Rattle.sheet.specs.Blocks.{with_node, held, behind_node, opens, leaf_tag, Opened, with_arm, a_case, opened, opened_if, opened_unless, opened_case, opened_for, opened_tablerow, opened_capture, opened_ifchanged}
-use Rattle.sheet.specs.Grammar.{Env, CycleNameIs, Begins, TheWord, TheSymbol, ReadsAs, ValueIs, RowIs, TargetIs, SettingIs, ChainIs, ConditionIs, WhensAre}
-use Rattle.sheet.specs.GrammarTags.{word_of, BelongsTo, Sets, AttributesAre, HeaderIs, CommaOrEnd, WrittenIs, ListIs, GivenIs, NamedCycleIs, UnnamedCycleIs, CycleIs, AssignIs, SimpleIs, OpensIs, FurtherIs, ElseIs}
-use Rattle.sheet.proofs.GrammarFine.{Fine, limited, fine, Any, fine_went, fine_next, fine_pure, fine_to, fine_from, fine_token, fine_taken, fine_if_some, Skips, fine_if_none, fine_finished, fine_end, symbol_so, symbol_at_so, begins_word, begins_symbol, fine_room, fine_one_more, fine_enter_cycle, fine_made, fine_value_as, value_so, fine_value, fine_too_many, fine_row, fine_target, fine_chain, fine_condition, fine_whens}
+use Rattle.sheet.specs.Grammar.{Env, Begins, TheWord, TheSymbol, ReadsAs, ValueIs, TargetIs, SettingIs, ChainIs, ConditionIs}
+use Rattle.sheet.specs.GrammarTags.{word_of, BelongsTo, Sets, AttributesAre, HeaderIs, CommaOrEnd, WrittenIs, ListIs, GivenIs, CycleIs, AssignIs, SimpleIs, OpensIs}
+use Rattle.sheet.proofs.GrammarFine.{Fine, limited, fine, Any, fine_next, fine_pure, fine_to, fine_taken, fine_if_some, fine_if_none, fine_end, symbol_so, symbol_at_so, begins_word, begins_symbol, fine_room, fine_one_more, fine_enter_cycle, fine_made, fine_value_as, value_so, fine_value, fine_row, fine_target, fine_chain, fine_condition}
 
 -- something that is read, and what is made of it, of which P holds
 pub fine_so : {A B : Type 0} {P : B → Type 0} (f : A → B) (j : Judge A) (a b : Words) (l : Lists) → ((y : A) → P (f y)) → Fine Any b (j (state a l)) → Fine P b ((j next λ x. pure (f x)) (state a l))

@@ -1,12 +1,11 @@
 -- The tokens behind a tag's name are a writing of one thing only.
-use Rattle.std.proofs.Common.{◌≡◌, ℕ, true, cond, ◌⊎◌, inl, inr, List, [], ◌∷◌, Some, None, codes, Option, refl, sym, ap, ap₂, ◌∙◌, subst}
+use Rattle.std.proofs.Common.{◌≡◌, ℕ, cond, inl, inr, List, [], ◌∷◌, Some, codes, refl, sym, ap, ap₂, ◌∙◌, subst}
 use Rattle.tray.specs.Parts.{same_text}
 use Rattle.cutter.specs.declared.lengths.Symbol.TheVariants as symbol
-use Rattle.cutter.specs.Words.{Words, over, wrong, word}
-use Rattle.cutter.specs.Tokens.{Reading, is_symbol}
+use Rattle.cutter.specs.Words.{Words, over}
+use Rattle.cutter.specs.Tokens.{is_symbol}
 use Rattle.tree.specs.Expressions.{Expr, Chain, Row}
-use Rattle.tree.specs.Conditions.{Condition}
-use Rattle.tree.specs.Elements.{Leaf, assign, increment, decrement, cycle, break, continue, Block, if_block, capture_block, ifchanged_block, Guard, holds, fails, equals_one, has_items, always}
+use Rattle.tree.specs.Elements.{Leaf, assign, increment, decrement, cycle, Block, capture_block, Guard, holds, fails, equals_one}
 use Rattle.arguments.specs.Judging.{Seen}
 use Rattle.arguments.specs.Values.{read}
 use Rattle.arguments.specs.Tables.{given_name, made_name}
@@ -14,16 +13,16 @@ use Rattle.tags.specs.declared.stdlib.blocks.for_block.Loop.{Loop}
 use Rattle.tags.specs.declared.stdlib.blocks.for_block.Loop.TheVariants.{For, Tablerow}
 use Rattle.tags.specs.declared.stdlib.blocks.for_block.Attribute.{Attribute}
 use Rattle.tags.specs.declared.stdlib.blocks.for_block.Attribute.TheVariants.{Cols, Limit, Offset, Reversed}
-use Rattle.tags.specs.Cycles.{Written, given, joined, values_in}
+use Rattle.tags.specs.Cycles.{Written, joined, values_in}
 use Rattle.tags.specs.Loops.{Attributes, no_attributes, Header, for_of, tablerow_of}
 use Rattle.sheet.specs.declared.names.Simple.{Simple}
 use Rattle.sheet.specs.declared.names.Simple.TheVariants as simple
 use Rattle.sheet.specs.declared.names.Block as code
 use Rattle.sheet.specs.declared.names.Block.TheVariants as kind
-use Rattle.sheet.specs.Grammar.{Env, CycleNameIs, Begins, TheWord, TheSymbol, ValueIs, RowIs, TargetIs, SettingIs, ChainIs, ConditionIs, WhensAre}
-use Rattle.sheet.specs.GrammarTags.{word_of, BelongsTo, Sets, AttributesAre, HeaderIs, CommaOrEnd, WrittenIs, ListIs, GivenIs, NamedCycleIs, UnnamedCycleIs, CycleIs, AssignIs, SimpleIs, OpensIs, FurtherIs, ElseIs}
+use Rattle.sheet.specs.Grammar.{Env, CycleNameIs, Begins, TheWord, TheSymbol, RowIs, ChainIs}
+use Rattle.sheet.specs.GrammarTags.{word_of, Sets, AttributesAre, HeaderIs, CommaOrEnd, WrittenIs, ListIs, GivenIs, NamedCycleIs, UnnamedCycleIs, CycleIs, AssignIs, SimpleIs, OpensIs, FurtherIs}
 use Rattle.sheet.specs.GrammarLaws.{Apart}
-use Rattle.sheet.proofs.GrammarOnly.{same_begins, no_begins, names_same, reads_one, value_one, row_one, target_one, setting_one, chain_one, condition_one, whens_one}
+use Rattle.sheet.proofs.GrammarOnly.{same_begins, no_begins, names_same, reads_one, row_one, target_one, setting_one, chain_one, condition_one, whens_one}
 
 -- the attribute with this word
 attribute_for : List ℕ → Attribute

@@ -13,6 +13,7 @@ pub mod GrammarTagging
 pub mod GrammarTagsOnly
 pub mod GrammarDerived
 pub mod GrammarOneWay
+pub mod GrammarKept
 pub mod GrammarFine
 pub mod GrammarTagsFine
 pub mod GrammarAccepted

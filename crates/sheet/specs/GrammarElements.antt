@@ -1,5 +1,5 @@
--- The grammar of elements: which pieces are a writing of which tree.
-use Rattle.std.specs.Prelude.{◌≡◌, ℕ, ◌⊎◌, List, Some, None, codes, Option}
+-- The grammar of elements: which pieces are a writing of which tree. Counts, lengths and depths have no limits here.
+use Rattle.std.specs.Prelude.{◌≡◌, ℕ, ◌⊎◌, List, Some, None, codes}
 use Rattle.cutter.specs.Words.{Words, over, verdict}
 use Rattle.cutter.specs.Cuts.{Cut, done as no_pieces, text, mark}
 use Rattle.cutter.specs.declared.state.Kind.TheVariants.{Tag as is_tag, Output as is_output}

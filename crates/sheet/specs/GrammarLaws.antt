@@ -1,5 +1,5 @@
 -- What holds of the grammar.
-use Rattle.std.specs.Prelude.{◌≡◌, ℕ, ◌<◌, ◌⊎◌, Bool, true, false, List, Some, None, codes, Option}
+use Rattle.std.specs.Prelude.{◌≡◌, ◌≢◌, ℕ, ◌<◌, ◌⊎◌, Bool, true, false, List, Some, None, codes, Option}
 use Rattle.cutter.specs.Words.{Words, tokens}
 use Rattle.cutter.specs.Cuts.{Cut, done as no_pieces}
 use Rattle.tree.specs.Expressions.{boolean_literal}
@@ -42,6 +42,10 @@ GroupsRight =
     (e : Env) →
     ConditionIs e grouped (tokens (codes "false and false or true")) × (Apart e → (c : Condition) → ConditionIs e c (tokens (codes "false and false or true")) → c ≡ grouped)
 
+-- what is written stays so where names and cycle names keep their numbers
+abbrev pub Monotone : Type 0
+Monotone = (d e : Env) → Kept d e → (source : List ℕ) (t : Tree) (c f : Cut) → ElementsAre d source t c f → ElementsAre e source t c f
+
 -- the tag that ends elements begins at f, and d is behind it; none at the end of the part
 abbrev pub EndsBy : List ℕ → Option Tag → Cut → Cut → Type 0
 EndsBy source None f d = (f ≡ no_pieces) × (d ≡ no_pieces)
@@ -68,3 +72,8 @@ abbrev pub Accepted : Type 0
 Accepted =
     (e : Env) (source : List ℕ) (end n r : ℕ) (c : Cut) (l : Lists) (t : Tree) → pieces c < n → ElementsAre e source t c no_pieces →
     ((p : ℕ) × (elements source end n r c l ≡ fails 2 p)) ⊎ ((y : Elements) × (m : Lists) × (elements source end n r c l ≡ gives y no_pieces m) × (y.ending ≡ None))
+
+-- so where reading is refused, and not by a limit, no tree is written
+abbrev pub NotWritten : Type 0
+NotWritten =
+    (source : List ℕ) (end n r : ℕ) (c : Cut) (l : Lists) (k p : ℕ) → pieces c < n → elements source end n r c l ≡ fails k p → k ≢ 2 → (e : Env) (t : Tree) → ElementsAre e source t c no_pieces → ⊥

@@ -1,5 +1,5 @@
 -- The grammar of tags: which tokens behind a tag's name are a writing of what.
-use Rattle.std.specs.Prelude.{◌≡◌, ℕ, true, ◌⊎◌, List, [], ◌∷◌, Some, None, codes, Option}
+use Rattle.std.specs.Prelude.{◌≡◌, ℕ, true, ◌⊎◌, List, [], ◌∷◌, Some, codes}
 use Rattle.cutter.specs.declared.lengths.Symbol.TheVariants as symbol
 use Rattle.cutter.specs.Words.{Words, over}
 use Rattle.tree.specs.Expressions.{Expr, Chain}
