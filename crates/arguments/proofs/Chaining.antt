@@ -1,5 +1,5 @@
 -- One call after another.
-use Rattle.std.proofs.Common.{◌≡◌, ℕ, ◌+◌, ◌-◌, ◌≤◌, List, length, take, drop, Some, vec_items, Result, refl, sym, ap, ◌∙◌, subst, arith}
+use Rattle.std.proofs.Common.{◌≡◌, ℕ, ◌+◌, ◌-◌, ◌≤◌, List, length, take, drop, Some, Ok, Err, vec_items, Result, refl, sym, ap, ◌∙◌, subst, arith}
 use Rattle.std.proofs.lemmas.Bool.{le-leb}
 use Rattle.std.proofs.lemmas.List.{drop-drop, take-take, drop-take}
 use Rattle.cutter.specs.Tokens as cutter
@@ -52,6 +52,11 @@ refuses_went Memory v k h = tt
 pub said_went : {A B C : Type 0} (r : Result A Stop) (v : Verdict B) (k : B → Judge C) (y : B) (s : State) (D : A → C → Type 0) (s' : State) →
     v ≡ passes y s → Said r (k y s) D s' → Said r (went v k) D s'
 said_went r v k y s D s' e h = subst (λ t. Said r t D s') (sym (ap (λ t. went t k) e)) h
+
+-- the same by a weaker tie
+pub said_weaker : {A B : Type 0} (r : Result A Stop) (v : Verdict B) (D E : A → B → Type 0) (s : State) → ((x : A) (y : B) → D x y → E x y) → Said r v D s → Said r v E s
+said_weaker (Ok x) v D E s f h = (h.0, f x h.0 h.1, h.2)
+said_weaker (Err e) v D E s f h = h
 
 -- the same of an equal verdict
 pub said_same : {A B : Type 0} (r : Result A Stop) (v w : Verdict B) (D : A → B → Type 0) (s : State) → w ≡ v → Said r v D s → Said r w D s

@@ -5,3 +5,8 @@ pub mod Paths
 pub mod Lying
 pub mod Specials
 pub mod Marks
+pub mod Rows
+pub mod Follows
+pub mod Chains
+pub mod Valuing
+pub mod Anywhere

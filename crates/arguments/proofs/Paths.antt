@@ -56,7 +56,7 @@ keys_at source [] (at_key p k) left h = (h.0, tt)
 keys_at source (at_index z ∷ done) s left h = keys_at source done s left h
 keys_at source (at_key p k ∷ done) s left h = keys_at source done s left h.1
 
-each_more : {A B : Type 0} (f : A → Option B) (xs : List A) (ys : List B) (x : A) (y : B) → each f xs ≡ Some ys → f x ≡ Some y → each f (xs ++ (x ∷ [])) ≡ Some (ys ++ (y ∷ []))
+pub each_more : {A B : Type 0} (f : A → Option B) (xs : List A) (ys : List B) (x : A) (y : B) → each f xs ≡ Some ys → f x ≡ Some y → each f (xs ++ (x ∷ [])) ≡ Some (ys ++ (y ∷ []))
 each_more f [] ys x y e h = ap (λ o. o so λ t. Some (t ∷ [])) h ∙ ap (λ l. Some (l ++ (y ∷ []))) (some_is [] ys e)
 each_more f (z ∷ xs) ys x y e h =
     let (w, p, q) = so_parts (f z) (λ t. each f xs so λ ts. Some (t ∷ ts)) ys e in

@@ -1,5 +1,5 @@
 -- What the reader's tables say, and what its functions answer.
-use Rattle.std.specs.Prelude.{◌≡◌, ℕ, ◌+◌, ◌<◌, ◌≤◌, true, false, List, map, length, take, drop, Ok, Err, vec_items, Result}
+use Rattle.std.specs.Prelude.{◌≡◌, ℕ, ◌+◌, ◌<◌, ◌≤◌, true, false, List, map, length, take, drop, Some, None, Ok, Err, vec_items, Option, Result}
 use Rattle.tray.specs.Parts.{cut}
 use Rattle.cutter.specs.Ahead.{ahead}
 use Rattle.cutter.specs.declared.places.Placed.{Placed}
@@ -107,6 +107,11 @@ pub record Lies (source : List ℕ) (place : ℕ) (b : List ℕ) : Type 0 where
 pub record Shown (source : List ℕ) (w : Placed) (y : Seen) : Type 0 where
   pub is : y ≡ seen w.place w.bytes.now
   pub lies : Lies source w.place w.bytes.now
+
+-- nothing, or what D ties to the definition's
+abbrev pub Perhaps : {A B : Type 0} → (A → B → Type 0) → Option A → Option B → Type 0
+Perhaps {A} {B} D None y = y ≡ None
+Perhaps {A} {B} D (Some x) y = (z : B) × D x z × (y ≡ Some z)
 
 -- the value itself
 abbrev pub Is : {A : Type 0} → A → A → Type 0

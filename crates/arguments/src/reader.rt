@@ -8,6 +8,7 @@ use cutter::tokens::Cursor;
 use nodes::exprs::{Expr, Filter, Part, Step};
 use nodes::table::Node;
 
+pub mod chains;
 pub mod entries;
 pub mod lists;
 pub mod marks;

@@ -144,7 +144,7 @@ module _ (b c : Pool) (w : Wider b c) where
   keeps_block (Capture n) y e = keeps_name n _ y e
   keeps_block Ifchanged y e = e
 
-  keeps_test : (n : Node) → Keeps (test_of b n) (test_of c n)
+  pub keeps_test : (n : Node) → Keeps (test_of b n) (test_of c n)
   keeps_test (node.Leaf p l) y e = e
   keeps_test (node.Open p k a z) y e = e
   keeps_test (node.Case p x n z) y e = e

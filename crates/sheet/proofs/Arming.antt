@@ -24,7 +24,8 @@ use Rattle.sheet.specs.declared.blocks.Following.TheVariants as following
 use Rattle.sheet.specs.Steps.{Outcome, fails, gives, Step, give, followed, judged, pieces}
 use Rattle.sheet.specs.Blocks.{Tag, Following, the_end, an_else, an_arm, follows, closes}
 use Rattle.sheet.specs.Parsing.{Elements, Inner, elements, inner, arm_of, last_of, rest_of, continued, rests}
-use Rattle.sheet.specs.Answers.{source_of, nodes_of, count, cut_of, taken, tag_in, Fails, Did, Went, Inners, InnerRead, GuardIn, Arming, ArmRead, Armed, RestRead, Follows, Same}
+use Rattle.sheet.specs.Answers.{source_of, nodes_of, count, cut_of, taken, tag_in, Fails, Did, Went, Inners, InnerRead, Arming, ArmRead, Armed, RestRead, Same}
+use Rattle.sheet.specs.Opening.{GuardIn, Follows}
 use Rattle.sheet.proofs.Chaining.{went_then, front_length, fails_followed}
 use Rattle.sheet.proofs.Setting.{set_count, agree_set, set_there, lists_same, wider_same}
 
@@ -111,12 +112,12 @@ module _ (room : ℕ) (kind : code.Block) (p q : Parser) (w : Placed) (k : Went 
       subst (λ i. Fails x (taken (rests (source_of p) p.end i room kind (tag_in p w)) p)) (sym e)
       (subst (Fails x) (sym (rest_step m)) (fails_followed x _ _ h))
 
-  module _ (f : code_following.Following) (d : Did (Ok f) (taken (judged (follows kind (tag_in p w)) (ahead p.reader.cursor)) p) (Follows p q) q) where
+  module _ (f : code_following.Following) (d : Did (Ok f) (taken (judged (follows kind (tag_in p w)) (ahead p.reader.cursor)) p) (Follows p.reader q.reader) q) where
     -- what is read at q by the definition
     abbrev go_on : (m : ℕ) → Following → Outcome Arms
     go_on m y = taken (continued p.end (elements (source_of p) p.end m room) kind (λ t. rests (source_of p) p.end m room kind t) y) q
 
-    went_on : (n : ℕ) → suc (pieces (cut_of p)) < n → (m : ℕ) × (pieces (cut_of q) < m) × (y : Following) × Follows p q f y × (taken (rests (source_of p) p.end n room kind (tag_in p w)) p ≡ go_on m y)
+    went_on : (n : ℕ) → suc (pieces (cut_of p)) < n → (m : ℕ) × (pieces (cut_of q) < m) × (y : Following) × Follows p.reader q.reader f y × (taken (rests (source_of p) p.end n room kind (tag_in p w)) p ≡ go_on m y)
     went_on n h =
         let (m, e, g) = follow_fuel n h in
         let (y, r, is) = d in
@@ -125,21 +126,21 @@ module _ (room : ℕ) (kind : code.Block) (p q : Parser) (w : Placed) (k : Went 
         ∙ ap (λ v. followed v (λ x. continued p.end (elements (source_of p) p.end m room) kind (λ t. rests (source_of p) p.end m room kind t) x)) is)
 
 module _ (room : ℕ) (kind : code.Block) (p q : Parser) (w : Placed) (k : Went p q) (c : q.cutter ≡ p.cutter) where
-  pub rest_end : Did (Ok following.End) (taken (judged (follows kind (tag_in p w)) (ahead p.reader.cursor)) p) (Follows p q) q → RestRead room kind w p (Ok next.Nothing) q
+  pub rest_end : Did (Ok following.End) (taken (judged (follows kind (tag_in p w)) (ahead p.reader.cursor)) p) (Follows p.reader q.reader) q → RestRead room kind w p (Ok next.Nothing) q
   rest_end d n h = let (m, f, y, r, is) = went_on room kind p q w k c following.End d n h in at_end m y r is
     where
-      at_end : (m : ℕ) (y : Following) → Follows p q following.End y → taken (rests (source_of p) p.end n room kind (tag_in p w)) p ≡ go_on room kind p q w k c following.End d m y →
+      at_end : (m : ℕ) (y : Following) → Follows p.reader q.reader following.End y → taken (rests (source_of p) p.end n room kind (tag_in p w)) p ≡ go_on room kind p q w k c following.End d m y →
           Did (Ok next.Nothing) (taken (rests (source_of p) p.end n room kind (tag_in p w)) p) (Armed room p q) q
       at_end m the_end r is = (no_arms, subst (λ j. ArmsIn (pool_of q.reader) (nodes_of q) next.Nothing room (count p) j no_arms) (sym (ap length r)) (arms_nothing (pool_of q.reader) (nodes_of q) room (count p)), is)
       at_end m an_else r is = absurd r
       at_end m (an_arm y) r is = absurd r
 
 -- an `else`: its elements, and the end tag
-module _ (room : ℕ) (kind : code.Block) (p q s : Parser) (w : Placed) (k : Went p q) (c : q.cutter ≡ p.cutter) (d : Did (Ok following.Else) (taken (judged (follows kind (tag_in p w)) (ahead p.reader.cursor)) p) (Follows p q) q) where
+module _ (room : ℕ) (kind : code.Block) (p q s : Parser) (w : Placed) (k : Went p q) (c : q.cutter ≡ p.cutter) (d : Did (Ok following.Else) (taken (judged (follows kind (tag_in p w)) (ahead p.reader.cursor)) p) (Follows p.reader q.reader) q) where
   else_is : (n : ℕ) → suc (pieces (cut_of p)) < n → (m : ℕ) × (pieces (cut_of q) < m) × (nodes_of q ≡ nodes_of p) × (taken (rests (source_of p) p.end n room kind (tag_in p w)) p ≡ taken (arm_of q.end (elements (source_of q) q.end m room) always (last_of q.end (elements (source_of q) q.end m room) kind)) q)
   else_is n h = let (m, f, y, r, is) = went_on room kind p q w k c following.Else d n h in at_else m f y r is
     where
-      at_else : (m : ℕ) → pieces (cut_of q) < m → (y : Following) → Follows p q following.Else y → taken (rests (source_of p) p.end n room kind (tag_in p w)) p ≡ go_on room kind p q w k c following.Else d m y →
+      at_else : (m : ℕ) → pieces (cut_of q) < m → (y : Following) → Follows p.reader q.reader following.Else y → taken (rests (source_of p) p.end n room kind (tag_in p w)) p ≡ go_on room kind p q w k c following.Else d m y →
           (m : ℕ) × (pieces (cut_of q) < m) × (nodes_of q ≡ nodes_of p) × (taken (rests (source_of p) p.end n room kind (tag_in p w)) p ≡ taken (arm_of q.end (elements (source_of q) q.end m room) always (last_of q.end (elements (source_of q) q.end m room) kind)) q)
       at_else m f the_end r is = absurd r
       at_else m f an_else r is = (m, f, r, is ∙ ap₂ (λ a b. taken (arm_of b (elements a b m room) always (last_of b (elements a b m room) kind)) q) (sym k.pool.source) (sym k.end))
@@ -178,14 +179,14 @@ module _ (room : ℕ) (kind : code.Block) (p q s : Parser) (w : Placed) (k : Wen
         is ∙ last_is m y g b.1 ∙ ap (λ t. followed (followed t (λ z. give no_arms)) (λ a. give (arm always y.tree a))) closed)
 
 -- another arm
-module _ (room : ℕ) (kind : code.Block) (p q s : Parser) (w : Placed) (guard : Guard) (k : Went p q) (c : q.cutter ≡ p.cutter) (d : Did (Ok (following.Arm guard)) (taken (judged (follows kind (tag_in p w)) (ahead p.reader.cursor)) p) (Follows p q) q) where
+module _ (room : ℕ) (kind : code.Block) (p q s : Parser) (w : Placed) (guard : Guard) (k : Went p q) (c : q.cutter ≡ p.cutter) (d : Did (Ok (following.Arm guard)) (taken (judged (follows kind (tag_in p w)) (ahead p.reader.cursor)) p) (Follows p.reader q.reader) q) where
   abbrev another : ℕ → tree.Guard → ℕ → Type 0
   another n y m = (count p < count q) × GuardIn (pool_of q.reader) (nodes_of q) (count p) (count q) guard y × (pieces (cut_of q) < m) × (taken (rests (source_of p) p.end n room kind (tag_in p w)) p ≡ taken (arm_of q.end (elements (source_of q) q.end m room) y (λ t. rests (source_of q) q.end m room kind t)) q)
 
   another_is : (n : ℕ) → suc (pieces (cut_of p)) < n → (y : tree.Guard) × (m : ℕ) × another n y m
   another_is n h = let (m, f, y, r, is) = went_on room kind p q w k c (following.Arm guard) d n h in at_arm m f y r is
     where
-      at_arm : (m : ℕ) → pieces (cut_of q) < m → (y : Following) → Follows p q (following.Arm guard) y → taken (rests (source_of p) p.end n room kind (tag_in p w)) p ≡ go_on room kind p q w k c (following.Arm guard) d m y →
+      at_arm : (m : ℕ) → pieces (cut_of q) < m → (y : Following) → Follows p.reader q.reader (following.Arm guard) y → taken (rests (source_of p) p.end n room kind (tag_in p w)) p ≡ go_on room kind p q w k c (following.Arm guard) d m y →
           (y : tree.Guard) × (m : ℕ) × another n y m
       at_arm m f the_end r is = absurd r
       at_arm m f an_else r is = absurd r

@@ -30,7 +30,8 @@ use Rattle.sheet.specs.declared.blocks.Opened.TheVariants as code_open
 use Rattle.sheet.specs.Steps.{Outcome, fails, gives, Step, give, followed, settled, judged, pieces}
 use Rattle.sheet.specs.Blocks.{Tag, opens, Opened, with_arm, a_case, opened}
 use Rattle.sheet.specs.Parsing.{Found, a_block, Inner, elements, inner, arm_of, dropped, filled, block_at, rests}
-use Rattle.sheet.specs.Answers.{source_of, nodes_of, count, cut_of, taken, tag_in, Fails, Did, Went, InnerRead, GuardIn, Arming, ArmRead, Armed, RestRead, Opens, Finds, BlockRead}
+use Rattle.sheet.specs.Answers.{source_of, nodes_of, count, cut_of, taken, tag_in, Fails, Did, Went, InnerRead, Arming, ArmRead, Armed, RestRead, Finds, BlockRead}
+use Rattle.sheet.specs.Opening.{GuardIn, Opens}
 use Rattle.sheet.proofs.Chaining.{went_then, front_length, fails_followed}
 use Rattle.sheet.proofs.Setting.{set_count, lists_same, lists_set, wider_same, wider_set}
 use Rattle.sheet.proofs.Arming.{arm_set, set_at, node_there}
@@ -59,12 +60,12 @@ module _ (room : ℕ) (kind : code.Block) (p q : Parser) (k : Went p q) (c : q.c
   block_refused x h n = subst (Fails x) (sym (block_step n)) (fails_followed x start (filling n) h)
 
   -- a block with an arm
-  module _ (b : Block) (guard : Guard) (d : Did (Ok (code_open.Arm b guard)) start (Opens p q) q) where
+  module _ (b : Block) (guard : Guard) (d : Did (Ok (code_open.Arm b guard)) start (Opens p.reader q.reader) q) where
     armed_is : (n : ℕ) → (x : tree.Block) × (y : tree.Guard) × (block_of (pool_of q.reader) b ≡ Some x) × (count p < count q) × GuardIn (pool_of q.reader) (nodes_of q) (count p) (count q) guard y × (0 < room)
         × (whole n ≡ followed (taken (arm_of q.end (elements (source_of q) q.end n (room - 1)) y (λ t. rests (source_of q) q.end n (room - 1) kind t)) q) (λ a. give (a_block p.reader.mark x a)))
     armed_is n = let (y, r, is) = d in go y r is
       where
-        go : (y : Opened) → Opens p q (code_open.Arm b guard) y → start ≡ gives y (cut_of q) (lists_of q.reader) →
+        go : (y : Opened) → Opens p.reader q.reader (code_open.Arm b guard) y → start ≡ gives y (cut_of q) (lists_of q.reader) →
             (x : tree.Block) × (y : tree.Guard) × (block_of (pool_of q.reader) b ≡ Some x) × (count p < count q) × GuardIn (pool_of q.reader) (nodes_of q) (count p) (count q) guard y × (0 < room)
             × (whole n ≡ followed (taken (arm_of q.end (elements (source_of q) q.end n (room - 1)) y (λ t. rests (source_of q) q.end n (room - 1) kind t)) q) (λ a. give (a_block p.reader.mark x a)))
         go (with_arm x y) r is =
@@ -102,12 +103,12 @@ module _ (room : ℕ) (kind : code.Block) (p q : Parser) (k : Went p q) (c : q.c
         ∙ ap₂ (λ z c. gives (a_block p.reader.mark t arms) z c) (ap left (sym cut)) (sym (lists_same s u at nd x)))
 
   -- a `case`
-  module _ (target : Expr) (d : Did (Ok (code_open.Case target)) start (Opens p q) q) where
+  module _ (target : Expr) (d : Did (Ok (code_open.Case target)) start (Opens p.reader q.reader) q) where
     case_is : (n : ℕ) → (x : tree_expr.Expr) × (expr_of (pool_of q.reader) target ≡ Some x) × (count q ≡ count p + 1) × (0 < room)
         × (whole n ≡ followed (taken (dropped q.end (elements (source_of q) q.end n (room - 1))) q) (λ t c l. followed (rests (source_of q) q.end n (room - 1) kind t c l) (λ a. give (a_block p.reader.mark (case_block x) a))))
     case_is n = let (y, r, is) = d in go y r is
       where
-        go : (y : Opened) → Opens p q (code_open.Case target) y → start ≡ gives y (cut_of q) (lists_of q.reader) →
+        go : (y : Opened) → Opens p.reader q.reader (code_open.Case target) y → start ≡ gives y (cut_of q) (lists_of q.reader) →
             (x : tree_expr.Expr) × (expr_of (pool_of q.reader) target ≡ Some x) × (count q ≡ count p + 1) × (0 < room)
             × (whole n ≡ followed (taken (dropped q.end (elements (source_of q) q.end n (room - 1))) q) (λ t c l. followed (rests (source_of q) q.end n (room - 1) kind t c l) (λ a. give (a_block p.reader.mark (case_block x) a))))
         go (with_arm x y) r is = absurd r

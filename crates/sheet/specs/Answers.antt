@@ -1,5 +1,5 @@
 -- What the parser's functions answer.
-use Rattle.std.specs.Prelude.{◌≡◌, ℕ, suc, ◌+◌, ◌-◌, ◌<◌, ◌≤◌, List, length, Some, None, Ok, Err, vec_items, Option, Result}
+use Rattle.std.specs.Prelude.{◌≡◌, ℕ, suc, ◌-◌, ◌<◌, ◌≤◌, List, length, Some, None, Ok, Err, vec_items, Option, Result}
 use Rattle.std.specs.Option.{option_map}
 use Rattle.cutter.specs.Ahead.{ahead}
 use Rattle.cutter.specs.Cuts.{Cut, done as no_pieces, unclosed, text, mark}
@@ -14,25 +14,19 @@ use Rattle.nodes.specs.declared.table.Next.{Next}
 use Rattle.nodes.specs.declared.table.Arm.{Arm}
 use Rattle.nodes.specs.declared.table.Guard.{Guard}
 use Rattle.nodes.specs.declared.table.Node.{Node}
-use Rattle.nodes.specs.Exprs.{Pool, expr_of}
-use Rattle.nodes.specs.Trees.{block_of, guard_of}
 use Rattle.nodes.specs.Wider.{Wider, Front}
 use Rattle.nodes.specs.Built.{Body, ArmsIn, Leads}
 use Rattle.arguments.specs.declared.refusals.Stop.{Stop}
 use Rattle.arguments.specs.declared.refusals.Stop.TheVariants.{Refused, Memory}
 use Rattle.arguments.specs.declared.refusals.Refusal.TheVariants.{Unclosed}
 use Rattle.arguments.specs.Refusals.{number_of}
-use Rattle.arguments.specs.Judging.{Seen, seen}
 use Rattle.arguments.specs.Marks.{inside}
 use Rattle.arguments.specs.Tables.{pool_of, lists_of, Lies}
 use Rattle.sheet.specs.declared.parser.Parser.{Parser}
 use Rattle.sheet.specs.declared.names.Block as code
-use Rattle.sheet.specs.declared.blocks.Opened as code_opened
-use Rattle.sheet.specs.declared.blocks.Opened.TheVariants as opened
-use Rattle.sheet.specs.declared.blocks.Following as code_following
-use Rattle.sheet.specs.declared.blocks.Following.TheVariants as following
 use Rattle.sheet.specs.Steps.{Outcome, fails, gives, Step, pieces}
-use Rattle.sheet.specs.Blocks.{Tag, tag, Opened, with_arm, a_case, Following, the_end, an_else, an_arm}
+use Rattle.sheet.specs.Blocks.{Tag}
+use Rattle.sheet.specs.Opening.{tag_of}
 use Rattle.sheet.specs.Parsing.{Found, a_leaf, a_block, other, Elements, Inner, a_text, marked, a_tag, a_mark, elements, inner, arm_of, block_at, rests}
 
 abbrev pub source_of : Parser → List ℕ
@@ -53,7 +47,7 @@ taken m p = m (cut_of p) (lists_of p.reader)
 
 -- the tag of the mark that is read, by its name
 abbrev pub tag_in : Parser → Placed → Tag
-tag_in p w = tag p.reader.mark (seen w.place w.bytes.now) (ahead p.reader.cursor)
+tag_in p w = tag_of p.reader w
 
 -- the definition's refusal, or want of memory
 abbrev pub Fails : {B : Type 0} → Stop → Outcome B → Type 0
@@ -151,10 +145,6 @@ BlockRead room b p r q =
     Did r (taken (block_at p.end (elements (source_of p) p.end n (room - 1)) room p.reader.mark (λ c t. rests (source_of p) p.end n (room - 1) c t) b (ahead p.reader.cursor)) p)
     (λ u y. Finds room p q None y) q
 
--- what decides about an arm whose node is at this place, and whose elements begin at `body`
-abbrev pub GuardIn : Pool → List Node → ℕ → ℕ → Guard → tree.Guard → Type 0
-GuardIn b ns at body g h = (a : Arm) → a.body ≡ body → guard_of b ns at a g ≡ Some h
-
 -- an arm whose elements begin where the nodes ended, and those behind it
 pub record Arming (room : ℕ) (g : Guard) (h : tree.Guard) (p q : Parser) (a : Arm) (y : Arms) : Type 0 where
   pub body : Tree
@@ -179,27 +169,6 @@ Armed room p q x y = ArmsIn (pool_of q.reader) (nodes_of q) x room (count p) (co
 abbrev pub RestRead : ℕ → code.Block → Placed → Parser → Result Next Stop → Parser → Type 0
 RestRead room b w p r q =
     (n : ℕ) → suc (pieces (cut_of p)) < n → Did r (taken (rests (source_of p) p.end n room b (tag_in p w)) p) (Armed room p q) q
-
--- a block that opens: the node at its place is set when it is whole
-abbrev pub Opens : Parser → Parser → code_opened.Opened → Opened → Type 0
-Opens p q (opened.Arm k g) (with_arm x y) =
-    (block_of (pool_of q.reader) k ≡ Some x) × (count p < count q) × GuardIn (pool_of q.reader) (nodes_of q) (count p) (count q) g y
-Opens p q (opened.Arm k g) (a_case y) = ⊥
-Opens p q (opened.Case e) (with_arm x y) = ⊥
-Opens p q (opened.Case e) (a_case y) = (expr_of (pool_of q.reader) e ≡ Some y) × (count q ≡ count p + 1)
-
--- what follows: an arm opens like a block
-abbrev pub Follows : Parser → Parser → code_following.Following → Following → Type 0
-Follows p q following.End the_end = nodes_of q ≡ nodes_of p
-Follows p q following.End an_else = ⊥
-Follows p q following.End (an_arm y) = ⊥
-Follows p q following.Else the_end = ⊥
-Follows p q following.Else an_else = nodes_of q ≡ nodes_of p
-Follows p q following.Else (an_arm y) = ⊥
-Follows p q (following.Arm g) the_end = ⊥
-Follows p q (following.Arm g) an_else = ⊥
-Follows p q (following.Arm g) (an_arm y) =
-    (count p < count q) × GuardIn (pool_of q.reader) (nodes_of q) (count p) (count q) g y
 
 -- the nodes are the same
 abbrev pub Same : Parser → Parser → Prim.Unit {0} → Prim.Unit {0} → Type 0

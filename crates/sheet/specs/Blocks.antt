@@ -32,9 +32,13 @@ tag m n w = record { mark = m; name = n; ahead = w }
 abbrev pub with_node : {A : Type 0} → ℕ → Judge A → Judge A
 with_node p j = room_at p next λ _. j next λ x. one_more next λ _. pure x
 
+-- room for a node, and the node
+unfoldable pub held : ℕ → Judge (Prim.Unit {0})
+held p = room_at p next λ _. one_more
+
 -- the node first, then the arguments
 abbrev pub behind_node : {A : Type 0} → ℕ → Judge A → Judge A
-behind_node p j = room_at p next λ _. one_more next λ _. j
+behind_node p j = held p next λ _. j
 
 -- a block: room for it among the open blocks
 abbrev pub opens : {A : Type 0} → ℕ → ℕ → Judge A → Judge A

@@ -2,8 +2,7 @@
 use Rattle.std.specs.Prelude.{ℕ, cond, List, Some, None, codes, Option}
 use Rattle.std.specs.Option.{option_map}
 use Rattle.tray.specs.Parts.{same_text}
-use Rattle.cutter.specs.Words.{Words, over, wrong, word}
-use Rattle.arguments.specs.Judging.{Lists, State, state, Verdict, refuses, passes, Judge, Seen, seen}
+use Rattle.arguments.specs.Judging.{Judge, ◌next◌, pure, refuse, Seen, token_if}
 use Rattle.arguments.specs.Values.{read, bare}
 use Rattle.sheet.specs.declared.names.Simple.{Simple}
 use Rattle.sheet.specs.declared.names.Simple.TheVariants as simple
@@ -51,15 +50,14 @@ closer e n =
     (cond (same_text n (codes "elsif")) closing.Elsif
     (cond (same_text n (codes "when")) closing.When closing.Other)))
 
-abbrev pub named_so : Seen → Option (List ℕ) → State → Verdict Seen
-named_so w None s = refuses 5 w.place
-named_so w (Some n) s = passes w s
+abbrev pub named_so : Seen → Option (List ℕ) → Judge Seen
+named_so w None = refuse 5 w.place
+named_so w (Some n) = pure w
 
-abbrev pub first_token : ℕ → Words → Lists → Verdict Seen
-first_token m over l = refuses 5 m
-first_token m (wrong p) l = refuses 4 p
-first_token m (word p b rest) l = named_so (seen p b) (bare (read (seen p b))) (state rest l)
+abbrev pub first_token : ℕ → Option Seen → Judge Seen
+first_token m None = refuse 5 m
+first_token m (Some w) = named_so w (bare (read w))
 
 -- the name of a tag: its first token, a bare name
 unfoldable pub tag_name : ℕ → Judge Seen
-tag_name m s = first_token m s.ahead s.lists
+tag_name m = token_if Some next λ w. first_token m w

@@ -3,7 +3,8 @@ ghost use Rattle.std.specs.Prelude.{◌≡◌};
 ghost use Rattle.cutter.specs.Ahead.{ahead};
 ghost use Rattle.sheet.specs.Steps.{judged};
 ghost use Rattle.sheet.specs.Blocks.{opens, opened, follows, closes};
-ghost use Rattle.sheet.specs.Answers.{tag_in, taken, nodes_of, Did, Went, Opens, Follows, Same};
+ghost use Rattle.sheet.specs.Answers.{tag_in, taken, nodes_of, Did, Went, Same};
+ghost use Rattle.sheet.specs.Opening.{Opens, Follows};
 
 use crate::names::Block;
 use crate::parser::Parser;
@@ -31,7 +32,7 @@ pub(crate) enum Following {
 impl<'a> Parser<'a> {
     // STUB
     pub(crate) fn open(&mut self, room: usize, block: Block) -> Result<Opened, Stop>
-        ensures says { Did result (taken (judged (opens room self.old.reader.mark (opened block self.old.reader.mark)) (ahead self.old.reader.cursor)) self.old) (Opens self.old self.new) self.new }
+        ensures says { Did result (taken (judged (opens room self.old.reader.mark (opened block self.old.reader.mark)) (ahead self.old.reader.cursor)) self.old) (Opens self.old.reader self.new.reader) self.new }
         ensures went { Went self.old self.new }
         ensures cutter { self.new.cutter ≡ self.old.cutter }
     {
@@ -40,7 +41,7 @@ impl<'a> Parser<'a> {
 
     // STUB
     pub(crate) fn follow(&mut self, block: Block, tag: Word<'a>) -> Result<Following, Stop>
-        ensures says { Did result (taken (judged (follows block (tag_in self.old tag.entry)) (ahead self.old.reader.cursor)) self.old) (Follows self.old self.new) self.new }
+        ensures says { Did result (taken (judged (follows block (tag_in self.old tag.entry)) (ahead self.old.reader.cursor)) self.old) (Follows self.old.reader self.new.reader) self.new }
         ensures went { Went self.old self.new }
         ensures cutter { self.new.cutter ≡ self.old.cutter }
     {

@@ -6,6 +6,8 @@ use Rattle.cutter.specs.Tokens.{Reading, is_nil, is_boolean, is_number, is_text,
 use Rattle.tray.specs.Parts.{same_text}
 use Rattle.tree.specs.Expressions.{Expr}
 use Rattle.tree.specs.Conditions.{Comparison, equals, differs, is_less, is_more, at_most, at_least, contains, Test, exists, compares, Condition, only, both, either}
+use Rattle.tags.specs.declared.stdlib.blocks.if_block.Joint.{Joint}
+use Rattle.tags.specs.declared.stdlib.blocks.if_block.Joint.TheVariants.{And, Or}
 use Rattle.arguments.specs.Judging.{Judge, ◌next◌, pure, refuse, Seen, token, token_if, finished, room_at, one_more}
 use Rattle.arguments.specs.Values.{read, value_as, value, is_value, too_many, is_the_word}
 
@@ -47,27 +49,32 @@ compared m x None = pure (exists x)
 compared m x (Some c) = value m next λ y. pure (compares x c y)
 
 -- a value, or two with a comparison between them
-unfoldable pub test : ℕ → Judge Test
-test m = first m next λ x. token_if comparison next λ c. compared m x c next λ t. one_more next λ _. pure t
+unfoldable pub tested : ℕ → Judge Test
+tested m = first m next λ x. token_if comparison next λ c. compared m x c
 
--- `and` or `or`, with its place
-pub data Joint : Type 0 where
-  and_at : ℕ → Joint
-  or_at : ℕ → Joint
+unfoldable pub test : ℕ → Judge Test
+test m = tested m next λ t. one_more next λ _. pure t
 
 abbrev pub joint : Seen → Option Joint
 joint w =
-    cond (is_the_word (codes "and") w) (Some (and_at w.place))
-    (cond (is_the_word (codes "or") w) (Some (or_at w.place)) None)
+    cond (is_the_word (codes "and") w) (Some (And w.place))
+    (cond (is_the_word (codes "or") w) (Some (Or w.place)) None)
+
+abbrev pub place_of : Joint → ℕ
+place_of (And p) = p
+place_of (Or p) = p
 
 -- a node more, for an `and` or `or`
-abbrev pub joining : ℕ → Judge (Prim.Unit {0})
-joining p = room_at p next λ _. one_more
+abbrev pub joining : Joint → Judge (Prim.Unit {0})
+joining j = room_at (place_of j) next λ _. one_more
+
+abbrev pub join : Joint → Test → Condition → Condition
+join (And p) t c = both t c
+join (Or p) t c = either t c
 
 abbrev pub joined : Judge Condition → Test → Option Joint → Judge Condition
 joined k t None = finished next λ _. pure (only t)
-joined k t (Some (and_at p)) = joining p next λ _. k next λ c. pure (both t c)
-joined k t (Some (or_at p)) = joining p next λ _. k next λ c. pure (either t c)
+joined k t (Some j) = joining j next λ _. k next λ c. pure (join j t c)
 
 -- tests with `and` and `or` between them, up to the end of the mark; of at most n of them, grouped from the right
 abbrev pub condition_of : ℕ → ℕ → Judge Condition

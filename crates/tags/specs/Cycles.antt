@@ -1,5 +1,5 @@
 -- The values and the name of a `cycle`. `,` is 44, a blank 32.
-use Rattle.std.specs.Prelude.{ℕ, zero, suc, Bool, true, false, cond, List, [], ◌∷◌, ◌++◌, map, Some, None, codes, Option}
+use Rattle.std.specs.Prelude.{ℕ, zero, suc, true, false, cond, List, [], ◌∷◌, ◌++◌, map, Some, None, codes, Option}
 use Rattle.numerals.specs.Decimal.{whole_text}
 use Rattle.cutter.specs.declared.lengths.Symbol.TheVariants.{Colon, Comma}
 use Rattle.cutter.specs.Tokens.{Reading, is_nil, is_boolean, is_number, is_text, is_name, is_path, is_range, is_symbol}
@@ -61,19 +61,22 @@ joined (x ∷ xs) = joined_with x.bytes xs
 abbrev pub values_in : List Written → List Expr
 values_in xs = map (λ x. x.value) xs
 
--- an unnamed cycle, whose first token is at place p
-abbrev pub unnamed : ℕ → List Written → Judge Leaf
-unnamed p xs = enter_cycle p (record { given = false; bytes = joined xs }) next λ c. pure (cycle c (values_in xs))
+-- a cycle with a given name, whose first token is w
+unfoldable pub named : Seen → Judge Leaf
+named w = enter_given w.place (given (read w)) next λ c. values_of 16 next λ xs. pure (cycle c (values_in xs))
+
+-- an unnamed cycle, which the values that it shows name
+abbrev pub made : ℕ → List Written → Judge Leaf
+made p xs = enter_cycle p (record { given = false; bytes = joined xs }) next λ c. pure (cycle c (values_in xs))
+
+-- one whose first value is w
+unfoldable pub unnamed : Seen → Judge Leaf
+unnamed w = value_as w.place w.place (read w) next λ x. values_of 15 next λ xs. made w.place (written w x ∷ xs)
 
 -- by the first token and the one behind it, which is taken
 abbrev pub cycle_by : Seen → Option Seen → Judge Leaf
-cycle_by w None = value_as w.place w.place (read w) next λ x. unnamed w.place (written w x ∷ [])
-cycle_by w (Some v) =
-    cond (is_the_symbol Colon v)
-    (enter_given w.place (given (read w)) next λ c. values_of 16 next λ xs. pure (cycle c (values_in xs)))
-    (cond (is_the_symbol Comma v)
-    (value_as w.place w.place (read w) next λ x. values_of 15 next λ xs. unnamed w.place (written w x ∷ xs))
-    (refuse 6 v.place))
+cycle_by w None = unnamed w
+cycle_by w (Some v) = cond (is_the_symbol Colon v) (named w) (cond (is_the_symbol Comma v) (unnamed w) (refuse 6 v.place))
 
 -- `cycle name: value, value`, or `cycle value, value`
 unfoldable pub cycle_tag : ℕ → Judge Leaf

@@ -3,3 +3,4 @@ pub mod Conditions
 pub mod Whens
 pub mod Loops
 pub mod Cycles
+pub mod Reading

@@ -4,6 +4,7 @@ use Rattle.tray.specs.Parts.{same_text}
 use Rattle.cutter.specs.Words.{Words, over, wrong, word}
 use Rattle.cutter.specs.declared.lengths.Symbol.TheVariants as symbol
 use Rattle.tree.specs.Expressions.{Expr, Row}
+use Rattle.tree.specs.Elements.{Block, for_block, tablerow_block}
 use Rattle.arguments.specs.Judging.{Judge, ◌next◌, pure, refuse, Seen, token_if, expect, finished}
 use Rattle.arguments.specs.Values.{read, bare, value, target, a_row, is_the_word, is_the_symbol}
 use Rattle.tags.specs.declared.stdlib.blocks.for_block.Loop.{Loop}
@@ -77,3 +78,10 @@ unfoldable pub header : Loop → ℕ → Judge Header
 header l m =
     target m next λ v. expect (is_the_word (codes "in")) m next λ _. a_row m next λ r. attributes l m next λ a.
     pure (record { variable = v; row = r; attributes = a })
+
+-- the blocks of the two loops
+abbrev pub for_of : Header → Block
+for_of h = for_block h.variable h.row h.attributes.limit h.attributes.offset h.attributes.reversed
+
+abbrev pub tablerow_of : Header → Block
+tablerow_of h = tablerow_block h.variable h.row h.attributes.cols h.attributes.limit h.attributes.offset

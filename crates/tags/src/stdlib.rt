@@ -1,1 +1,3 @@
 pub mod blocks;
+pub mod output;
+pub mod tags;

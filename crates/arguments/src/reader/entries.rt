@@ -1,7 +1,8 @@
 // Nodes and values that enter the tables, and room for nodes.
 ghost use Rattle.std.specs.Prelude.{◌≡◌, [], ◌∷◌, ◌++◌, take, slice_set, OnOk, vec_items};
 ghost use Rattle.arguments.specs.Judging.{pure, room_at, one_more, seen};
-ghost use Rattle.arguments.specs.Values.{read, is_value};
+ghost use Rattle.arguments.specs.Values.{read, is_value, value};
+ghost use Rattle.arguments.specs.Reading.{one_too_many, Valued};
 ghost use Rattle.arguments.specs.Tables.{pool_of, with_values, under, Said, Longer, Sets, Is};
 
 use crate::reader::Reader;
@@ -18,6 +19,18 @@ pub fn is_value(word: Word) -> bool
     ensures { result ≡ is_value (read (seen word.entry.place word.entry.bytes.now)) }
 {
     !matches!(word.token(), Token::Range(_, _) | Token::Symbol(_))
+}
+
+/// The refusal of one value too many.
+pub fn too_many(word: Word) -> Stop
+    ensures { result ≡ one_too_many (seen word.entry.place word.entry.bytes.now) }
+{
+    let refusal = if is_value(word) {
+        Refusal::Limit
+    } else {
+        Refusal::Argument
+    };
+    Stop::Refused(refusal, word.place)
 }
 
 impl Reader<'_> {
@@ -44,8 +57,8 @@ impl Reader<'_> {
         Ok(())
     }
 
-    /// One value more.
-    pub fn push_value(&mut self, value: Expr) -> Result<(), Stop>
+    // One value more.
+    fn push_value(&mut self, value: Expr) -> Result<(), Stop>
         ensures says { Said result (pure tt (under self.old)) Is (under self.new) }
         ensures pushed { OnOk result (vec_items self.new.values ≡ vec_items self.old.values ++ value ∷ []) }
         ensures pool { pool_of self.new ≡ with_values (vec_items self.new.values) (pool_of self.old) }
@@ -70,5 +83,16 @@ impl Reader<'_> {
         ensures { Sets self.old self.new (take count (vec_items self.old.nodes)) }
     {
         self.nodes.truncate(count);
+    }
+
+    /// A value, which enters the table.
+    #[tactic(auto, using(crate::proofs::Chaining::said_went, crate::proofs::Chaining::refuses_went))]
+    pub fn enter_value(&mut self) -> Result<(), Stop>
+        ensures says { Said result (value self.old.mark (under self.old)) (Valued self.old self.new) (under self.new) }
+        ensures nodes { vec_items self.new.nodes ≡ vec_items self.old.nodes }
+        ensures longer { Longer self.old self.new }
+    {
+        let value = self.value()?;
+        self.push_value(value)
     }
 }

@@ -1,20 +1,23 @@
 // Values, rows and targets.
-ghost use Rattle.std.specs.Prelude.{◌≡◌, []};
+ghost use Rattle.std.specs.Prelude.{◌≡◌, [], length};
 ghost use Rattle.cutter.specs.Paths.{steps_of, placed_step};
-ghost use Rattle.cutter.specs.Tokens.{token_of};
+ghost use Rattle.cutter.specs.Tokens.{token_of, is_range};
 ghost use Rattle.nodes.specs.Exprs.{expr_of};
-ghost use Rattle.arguments.specs.Values.{head, a_path, value_as, value};
-ghost use Rattle.arguments.specs.Tables.{part_in, pool_of, under, Said, Grown, Lies};
-ghost use Rattle.arguments.specs.Reading.{Heads, Exprs, Stepped, entry_of};
+ghost use Rattle.arguments.specs.Judging.{seen};
+ghost use Rattle.arguments.specs.Values.{read, bare, head, a_path, value_as, value, row_as, a_row, new_name, target};
+ghost use Rattle.arguments.specs.Tables.{part_in, pool_of, under, Said, Grown, Lies, Below};
+ghost use Rattle.arguments.specs.Reading.{Heads, Exprs, Rows, Stepped, entry_of};
 
 use crate::reader::Reader;
 use crate::reader::lists::part_in;
+use crate::reader::words::bare_of;
 use crate::refusals::{Refusal, Stop};
 use crate::words::{Special, special_of};
 use cutter::paths::{StepWord, Steps};
 use cutter::places::Placed;
 use cutter::tokens::{Token, Word};
 use nodes::exprs::{Expr, Head, Part, Row, Span, Step};
+use tray::names::is_reserved;
 
 // How many steps a path may have.
 const STEPS: usize = 4;
@@ -131,5 +134,65 @@ impl<'a> Reader<'a> {
     {
         let word = self.word()?;
         self.value_as(word.place, word)
+    }
+
+    // The bounds of a range, judged at `place`.
+    fn bounds(&mut self, place: usize, from: Word<'a>, to: Word<'a>) -> Result<Row, Stop>
+        requires from { Lies self.old.source.now from.place from.bytes.now }
+        requires to { Lies self.old.source.now to.place to.bytes.now }
+        ensures says { Said result (row_as place (is_range from.entry.place from.entry.bytes.now to.entry.place to.entry.bytes.now) (under self.old)) (Rows (pool_of self.new)) (under self.new) }
+        ensures grown { Grown self.old self.new }
+    {
+        let from = self.value_as(place, from)?;
+        let to = self.value_as(place, to)?;
+        Ok(Row::Range(from, to))
+    }
+
+    // What a loop goes over, as a token says it.
+    fn row_as(&mut self, word: Word<'a>) -> Result<Row, Stop>
+        requires lies { Lies self.old.source.now word.place word.bytes.now }
+        ensures says { Said result (row_as word.entry.place (token_of word.entry.place word.entry.bytes.now) (under self.old)) (Rows (pool_of self.new)) (under self.new) }
+        ensures grown { Grown self.old self.new }
+    {
+        let place = word.place;
+        match word.token() {
+            Token::Range(from, to) => self.bounds(place, from, to),
+            _ => Ok(Row::Of(self.value_as(place, word)?)),
+        }
+    }
+
+    /// What a loop goes over.
+    #[tactic(auto, using(crate::proofs::Chaining::said_went, crate::proofs::Chaining::refuses_went), unfolding(crate::specs::Values::a_row))]
+    pub fn row(&mut self) -> Result<Row, Stop>
+        ensures says { Said result (a_row self.old.mark (under self.old)) (Rows (pool_of self.new)) (under self.new) }
+        ensures grown { Grown self.old self.new }
+    {
+        let word = self.word()?;
+        self.row_as(word)
+    }
+
+    // The number of the bare name that a token is.
+    fn new_name(&mut self, word: Word<'a>) -> Result<usize, Stop>
+        requires lies { Lies self.old.source.now word.place word.bytes.now }
+        ensures says { Said result (new_name word.entry.place (bare (read (seen word.entry.place word.entry.bytes.now))) (under self.old)) (Below (length self.new.names.items)) (under self.new) }
+        ensures grown { Grown self.old self.new }
+    {
+        let place = word.place;
+        let name = bare_of(word).ok_or(Stop::Refused(Refusal::Argument, place))?;
+        if is_reserved(name) {
+            return Err(Stop::Refused(Refusal::Reserved, place));
+        }
+        let len = name.len();
+        self.enter(place, Part { place, len })
+    }
+
+    /// A target or loop variable.
+    #[tactic(auto, using(crate::proofs::Chaining::said_went, crate::proofs::Chaining::refuses_went), unfolding(crate::specs::Values::target))]
+    pub fn target(&mut self) -> Result<usize, Stop>
+        ensures says { Said result (target self.old.mark (under self.old)) (Below (length self.new.names.items)) (under self.new) }
+        ensures grown { Grown self.old self.new }
+    {
+        let word = self.word()?;
+        self.new_name(word)
     }
 }

@@ -5,7 +5,8 @@ use Rattle.sheet.specs.declared.names.Known.TheVariants as known
 use Rattle.sheet.specs.Steps.{pieces, judged}
 use Rattle.sheet.specs.Blocks.{opens, opened, follows}
 use Rattle.sheet.specs.Parsing.{elements, inner, arm_of, rests, marked}
-use Rattle.sheet.specs.Answers.{source_of, taken, tag_in, Fails, Did, Takes, Opens, Follows, found, ElementsRead, ElementRead}
+use Rattle.sheet.specs.Opening.{Opens, Follows}
+use Rattle.sheet.specs.Answers.{source_of, taken, tag_in, Fails, Did, Takes, found, ElementsRead, ElementRead}
 use Rattle.sheet.proofs.Chaining.{went_then, fails_followed, did_err}
 use Rattle.sheet.proofs.Walking.{same_went, walking_none, walking_more, walking_met, walking_refused, walking_over, walking_unclosed, inner_some, inner_none}
 use Rattle.sheet.proofs.Setting.{front_set, front_take, went_sets}
@@ -90,36 +91,36 @@ tag-returns-in_err-name-clause-says t c =
     did_err c.from_residual.result _ _ _ c.in_err-name.field-0.0 c.from_residual.ensures.1
     (tag_refused c.args.room c.args.self.now c.tag_name.new.self c.tag_name.ensures.cutter c.tag_name.ensures.end c.in_err-name.field-0.0 c.in_err-name.ensures.says n)
 
-pub tag-returns-in_err-simple-in-Some-Simple-clause-says : goal.tag-returns-in_err-simple-in-Some-Simple-clause-says
-tag-returns-in_err-simple-in-Some-Simple-clause-says t c =
+pub tag-returns-in_err-simple-in-Simple-clause-says : goal.tag-returns-in_err-simple-in-Simple-clause-says
+tag-returns-in_err-simple-in-Simple-clause-says t c =
     λ n h.
-    did_err c.from_residual-in_err-simple-in-Some-Simple.result _ _ _ c.in_err-simple-in-Some-Simple.field-0.0 c.from_residual-in_err-simple-in-Some-Simple.ensures.1
-    (tag_did_not c.args.room c.args.self.now c.tag_name.new.self c.tag_name.ensures.cutter c.tag_name.ensures.end c.in_ok-name.name c.in_ok-name.ensures.says c.tag_name.ensures.grown c.in_err-simple-in-Some-Simple.field-0.0 n (Some (known.Simple c.in-Some-Simple.kind)) (ap Some (sym c.in-Some-Simple.field-0-is) ∙ sym c.in-Some-Simple.is ∙ c.known_as.ensures) _ refl c.in_err-simple-in-Some-Simple.ensures.says)
+    did_err c.from_residual-in_err-simple-in-Simple.result _ _ _ c.in_err-simple-in-Simple.field-0.0 c.from_residual-in_err-simple-in-Simple.ensures.1
+    (tag_did_not c.args.room c.args.self.now c.tag_name.new.self c.tag_name.ensures.cutter c.tag_name.ensures.end c.in_ok-name.name c.in_ok-name.ensures.says c.tag_name.ensures.grown c.in_err-simple-in-Simple.field-0.0 n (Some (known.Simple c.in-Simple.kind)) (ap Some (sym c.in-Simple.is) ∙ sym c.in-Some.is ∙ c.known_as.ensures) _ refl c.in_err-simple-in-Simple.ensures.says)
 
-pub tag-returns-in_err-block-in-Some-Block-clause-says : goal.tag-returns-in_err-block-in-Some-Block-clause-says
-tag-returns-in_err-block-in-Some-Block-clause-says t c =
+pub tag-returns-in_err-block-in-Block-clause-says : goal.tag-returns-in_err-block-in-Block-clause-says
+tag-returns-in_err-block-in-Block-clause-says t c =
     λ n h.
-    did_err c.from_residual-in_err-block-in-Some-Block.result _ _ _ c.in_err-block-in-Some-Block.field-0.0 c.from_residual-in_err-block-in-Some-Block.ensures.1
-    (tag_did_not c.args.room c.args.self.now c.tag_name.new.self c.tag_name.ensures.cutter c.tag_name.ensures.end c.in_ok-name.name c.in_ok-name.ensures.says c.tag_name.ensures.grown c.in_err-block-in-Some-Block.field-0.0 n (Some (known.Block c.in-Some-Block.kind)) (ap Some (sym c.in-Some-Block.field-0-is) ∙ sym c.in-Some-Block.is ∙ c.known_as.ensures) _ refl (c.in_err-block-in-Some-Block.ensures.says n (omega (arith, h, ap (λ x. pieces (left x)) c.tag_name.ensures.cutter))))
+    did_err c.from_residual-in_err-block-in-Block.result _ _ _ c.in_err-block-in-Block.field-0.0 c.from_residual-in_err-block-in-Block.ensures.1
+    (tag_did_not c.args.room c.args.self.now c.tag_name.new.self c.tag_name.ensures.cutter c.tag_name.ensures.end c.in_ok-name.name c.in_ok-name.ensures.says c.tag_name.ensures.grown c.in_err-block-in-Block.field-0.0 n (Some (known.Block c.in-Block.kind)) (ap Some (sym c.in-Block.is) ∙ sym c.in-Some.is ∙ c.known_as.ensures) _ refl (c.in_err-block-in-Block.ensures.says n (omega (arith, h, ap (λ x. pieces (left x)) c.tag_name.ensures.cutter))))
 
-pub tag-returns-in_ok-simple-in-Some-Simple-clause-says : goal.tag-returns-in_ok-simple-in-Some-Simple-clause-says
-tag-returns-in_ok-simple-in-Some-Simple-clause-says t c =
+pub tag-returns-in_ok-simple-in-Simple-clause-says : goal.tag-returns-in_ok-simple-in-Simple-clause-says
+tag-returns-in_ok-simple-in-Simple-clause-says t c =
     λ n h.
-    let (y, d, g) = c.in_ok-simple-in-Some-Simple.ensures.says in
-    tag_did c.args.room c.args.self.now c.tag_name.new.self c.tag_name.ensures.cutter c.tag_name.ensures.end c.in_ok-name.name c.in_ok-name.ensures.says c.tag_name.ensures.grown c.simple.new.self n (Some (known.Simple c.in-Some-Simple.kind)) (ap Some (sym c.in-Some-Simple.field-0-is) ∙ sym c.in-Some-Simple.is ∙ c.known_as.ensures) _ refl (y, d c.args.room, g)
+    let (y, d, g) = c.in_ok-simple-in-Simple.ensures.says in
+    tag_did c.args.room c.args.self.now c.tag_name.new.self c.tag_name.ensures.cutter c.tag_name.ensures.end c.in_ok-name.name c.in_ok-name.ensures.says c.tag_name.ensures.grown c.simple.new.self n (Some (known.Simple c.in-Simple.kind)) (ap Some (sym c.in-Simple.is) ∙ sym c.in-Some.is ∙ c.known_as.ensures) _ refl (y, d c.args.room, g)
 
-pub tag-returns-in_ok-block-in-Some-Block-clause-says : goal.tag-returns-in_ok-block-in-Some-Block-clause-says
-tag-returns-in_ok-block-in-Some-Block-clause-says t c =
-    λ n h. tag_did c.args.room c.args.self.now c.tag_name.new.self c.tag_name.ensures.cutter c.tag_name.ensures.end c.in_ok-name.name c.in_ok-name.ensures.says c.tag_name.ensures.grown c.block.new.self n (Some (known.Block c.in-Some-Block.kind)) (ap Some (sym c.in-Some-Block.field-0-is) ∙ sym c.in-Some-Block.is ∙ c.known_as.ensures) _ refl (c.in_ok-block-in-Some-Block.ensures.says n (omega (arith, h, ap (λ x. pieces (left x)) c.tag_name.ensures.cutter)))
+pub tag-returns-in_ok-block-in-Block-clause-says : goal.tag-returns-in_ok-block-in-Block-clause-says
+tag-returns-in_ok-block-in-Block-clause-says t c =
+    λ n h. tag_did c.args.room c.args.self.now c.tag_name.new.self c.tag_name.ensures.cutter c.tag_name.ensures.end c.in_ok-name.name c.in_ok-name.ensures.says c.tag_name.ensures.grown c.block.new.self n (Some (known.Block c.in-Block.kind)) (ap Some (sym c.in-Block.is) ∙ sym c.in-Some.is ∙ c.known_as.ensures) _ refl (c.in_ok-block-in-Block.ensures.says n (omega (arith, h, ap (λ x. pieces (left x)) c.tag_name.ensures.cutter)))
 
-pub tag-returns-in_err-block-in-Some-Block-clause-went : goal.tag-returns-in_err-block-in-Some-Block-clause-went
-tag-returns-in_err-block-in-Some-Block-clause-went t c = went_then c.args.self.now c.tag_name.new.self c.block.new.self (tag_went c.args.room c.args.self.now c.tag_name.new.self c.tag_name.ensures.cutter c.tag_name.ensures.end c.in_ok-name.name c.in_ok-name.ensures.says c.tag_name.ensures.grown) c.block.ensures.went
+pub tag-returns-in_err-block-in-Block-clause-went : goal.tag-returns-in_err-block-in-Block-clause-went
+tag-returns-in_err-block-in-Block-clause-went t c = went_then c.args.self.now c.tag_name.new.self c.block.new.self (tag_went c.args.room c.args.self.now c.tag_name.new.self c.tag_name.ensures.cutter c.tag_name.ensures.end c.in_ok-name.name c.in_ok-name.ensures.says c.tag_name.ensures.grown) c.block.ensures.went
 
-pub tag-returns-in_ok-block-in-Some-Block-clause-went : goal.tag-returns-in_ok-block-in-Some-Block-clause-went
-tag-returns-in_ok-block-in-Some-Block-clause-went t c = went_then c.args.self.now c.tag_name.new.self c.block.new.self (tag_went c.args.room c.args.self.now c.tag_name.new.self c.tag_name.ensures.cutter c.tag_name.ensures.end c.in_ok-name.name c.in_ok-name.ensures.says c.tag_name.ensures.grown) c.block.ensures.went
+pub tag-returns-in_ok-block-in-Block-clause-went : goal.tag-returns-in_ok-block-in-Block-clause-went
+tag-returns-in_ok-block-in-Block-clause-went t c = went_then c.args.self.now c.tag_name.new.self c.block.new.self (tag_went c.args.room c.args.self.now c.tag_name.new.self c.tag_name.ensures.cutter c.tag_name.ensures.end c.in_ok-name.name c.in_ok-name.ensures.says c.tag_name.ensures.grown) c.block.ensures.went
 
-pub tag-returns-in-None-clause-says : goal.tag-returns-in-None-clause-says
-tag-returns-in-None-clause-says t c = tag_other c.args.room c.args.self.now c.tag_name.new.self c.tag_name.ensures.cutter c.tag_name.ensures.end c.in_ok-name.name c.in_ok-name.ensures.says c.tag_name.ensures.grown (sym c.in-None.is ∙ c.known_as.ensures)
+pub tag-returns-in_default-clause-says : goal.tag-returns-in_default-clause-says
+tag-returns-in_default-clause-says t c = tag_other c.args.room c.args.self.now c.tag_name.new.self c.tag_name.ensures.cutter c.tag_name.ensures.end c.in_ok-name.name c.in_ok-name.ensures.says c.tag_name.ensures.grown (sym c.in_default.is ∙ c.known_as.ensures)
 
 pub block-returns-in_err-block-clause-says : goal.block-returns-in_err-block-clause-says
 block-returns-in_err-block-clause-says t c =
@@ -131,13 +132,13 @@ pub block-returns-in_err-arm-in-Arm-clause-says : goal.block-returns-in_err-arm-
 block-returns-in_err-arm-in-Arm-clause-says t c =
     λ n h.
     did_err c.from_residual-in_err-arm-in-Arm.result _ _ _ c.in_err-arm-in-Arm.field-0.0 c.from_residual-in_err-arm-in-Arm.ensures.1
-    (block_arm_refused c.args.room c.args.kind c.args.self.now c.open.new.self c.open.ensures.went c.open.ensures.cutter c.in-Arm.block c.in-Arm.guard (subst (λ r. Did r (taken (judged (opens c.args.room c.args.self.now.reader.mark (opened c.args.kind c.args.self.now.reader.mark)) (ahead c.args.self.now.reader.cursor)) c.args.self.now) (Opens c.args.self.now c.open.new.self) c.open.new.self) (c.in_ok-block.was ∙ ap Ok c.in-Arm.is) c.open.ensures.says) c.arm.new.self c.in_err-arm-in-Arm.field-0.0 c.in_err-arm-in-Arm.ensures.says n h)
+    (block_arm_refused c.args.room c.args.kind c.args.self.now c.open.new.self c.open.ensures.went c.open.ensures.cutter c.in-Arm.block c.in-Arm.guard (subst (λ r. Did r (taken (judged (opens c.args.room c.args.self.now.reader.mark (opened c.args.kind c.args.self.now.reader.mark)) (ahead c.args.self.now.reader.cursor)) c.args.self.now) (Opens c.args.self.now.reader c.open.new.self.reader) c.open.new.self) (c.in_ok-block.was ∙ ap Ok c.in-Arm.is) c.open.ensures.says) c.arm.new.self c.in_err-arm-in-Arm.field-0.0 c.in_err-arm-in-Arm.ensures.says n h)
 
 pub block-returns-in_err-arm-in-Arm-clause-went : goal.block-returns-in_err-arm-in-Arm-clause-went
 block-returns-in_err-arm-in-Arm-clause-went t c = went_then c.args.self.now c.open.new.self c.arm.new.self c.open.ensures.went c.arm.ensures.went
 
 pub block-returns-in_ok-arm-in-Arm-clause-says : goal.block-returns-in_ok-arm-in-Arm-clause-says
-block-returns-in_ok-arm-in-Arm-clause-says t c = block_arm c.args.room c.args.kind c.args.self.now c.open.new.self c.open.ensures.went c.open.ensures.cutter c.in-Arm.block c.in-Arm.guard (subst (λ r. Did r (taken (judged (opens c.args.room c.args.self.now.reader.mark (opened c.args.kind c.args.self.now.reader.mark)) (ahead c.args.self.now.reader.cursor)) c.args.self.now) (Opens c.args.self.now c.open.new.self) c.open.new.self) (c.in_ok-block.was ∙ ap Ok c.in-Arm.is) c.open.ensures.says) c.arm.new.self c.set_node.new.self c.count-at.result c.count-end.result c.args.self.now.reader.mark c.in_ok-arm-in-Arm.arm c.count-at.ensures c.count-end.ensures refl c.arm.ensures.went c.in_ok-arm-in-Arm.ensures.says c.set_node.ensures.sets c.set_node.ensures.cutter
+block-returns-in_ok-arm-in-Arm-clause-says t c = block_arm c.args.room c.args.kind c.args.self.now c.open.new.self c.open.ensures.went c.open.ensures.cutter c.in-Arm.block c.in-Arm.guard (subst (λ r. Did r (taken (judged (opens c.args.room c.args.self.now.reader.mark (opened c.args.kind c.args.self.now.reader.mark)) (ahead c.args.self.now.reader.cursor)) c.args.self.now) (Opens c.args.self.now.reader c.open.new.self.reader) c.open.new.self) (c.in_ok-block.was ∙ ap Ok c.in-Arm.is) c.open.ensures.says) c.arm.new.self c.set_node.new.self c.count-at.result c.count-end.result c.args.self.now.reader.mark c.in_ok-arm-in-Arm.arm c.count-at.ensures c.count-end.ensures refl c.arm.ensures.went c.in_ok-arm-in-Arm.ensures.says c.set_node.ensures.sets c.set_node.ensures.cutter
 
 pub block-returns-in_ok-arm-in-Arm-clause-went : goal.block-returns-in_ok-arm-in-Arm-clause-went
 block-returns-in_ok-arm-in-Arm-clause-went t c =
@@ -148,7 +149,7 @@ pub block-returns-in_err-tag-in-Case-clause-says : goal.block-returns-in_err-tag
 block-returns-in_err-tag-in-Case-clause-says t c =
     λ n h.
     did_err c.from_residual-in_err-tag-in-Case.result _ _ _ c.in_err-tag-in-Case.field-0.0 c.from_residual-in_err-tag-in-Case.ensures.1
-    (case_inner_refused c.args.room c.args.kind c.args.self.now c.open.new.self c.open.ensures.went c.open.ensures.cutter c.in-Case.target (subst (λ r. Did r (taken (judged (opens c.args.room c.args.self.now.reader.mark (opened c.args.kind c.args.self.now.reader.mark)) (ahead c.args.self.now.reader.cursor)) c.args.self.now) (Opens c.args.self.now c.open.new.self) c.open.new.self) (c.in_ok-block.was ∙ ap Ok c.in-Case.is) c.open.ensures.says) c.inner.new.self c.in_err-tag-in-Case.field-0.0 c.in_err-tag-in-Case.ensures.says n h)
+    (case_inner_refused c.args.room c.args.kind c.args.self.now c.open.new.self c.open.ensures.went c.open.ensures.cutter c.in-Case.target (subst (λ r. Did r (taken (judged (opens c.args.room c.args.self.now.reader.mark (opened c.args.kind c.args.self.now.reader.mark)) (ahead c.args.self.now.reader.cursor)) c.args.self.now) (Opens c.args.self.now.reader c.open.new.self.reader) c.open.new.self) (c.in_ok-block.was ∙ ap Ok c.in-Case.is) c.open.ensures.says) c.inner.new.self c.in_err-tag-in-Case.field-0.0 c.in_err-tag-in-Case.ensures.says n h)
 
 pub block-returns-in_err-tag-in-Case-clause-went : goal.block-returns-in_err-tag-in-Case-clause-went
 block-returns-in_err-tag-in-Case-clause-went t c = went_then c.args.self.now c.open.new.self c.inner.new.self c.open.ensures.went c.inner.ensures.went
@@ -157,7 +158,7 @@ pub block-returns-in_err-then-in-Case-clause-says : goal.block-returns-in_err-th
 block-returns-in_err-then-in-Case-clause-says t c =
     λ n h.
     did_err c.from_residual-in_err-then-in-Case.result _ _ _ c.in_err-then-in-Case.field-0.0 c.from_residual-in_err-then-in-Case.ensures.1
-    (case_rest_refused c.args.room c.args.kind c.args.self.now c.open.new.self c.open.ensures.went c.open.ensures.cutter c.in-Case.target (subst (λ r. Did r (taken (judged (opens c.args.room c.args.self.now.reader.mark (opened c.args.kind c.args.self.now.reader.mark)) (ahead c.args.self.now.reader.cursor)) c.args.self.now) (Opens c.args.self.now c.open.new.self) c.open.new.self) (c.in_ok-block.was ∙ ap Ok c.in-Case.is) c.open.ensures.says) c.inner.new.self c.drop_nodes.new.self c.in_ok-tag-in-Case.tag c.count-at.result c.count-at.ensures c.inner.ensures.went c.in_ok-tag-in-Case.ensures.met c.in_ok-tag-in-Case.ensures.says c.drop_nodes.ensures.sets c.drop_nodes.ensures.cutter c.drop_nodes.ensures.end c.rest.new.self c.in_err-then-in-Case.field-0.0 c.in_err-then-in-Case.ensures.says n h)
+    (case_rest_refused c.args.room c.args.kind c.args.self.now c.open.new.self c.open.ensures.went c.open.ensures.cutter c.in-Case.target (subst (λ r. Did r (taken (judged (opens c.args.room c.args.self.now.reader.mark (opened c.args.kind c.args.self.now.reader.mark)) (ahead c.args.self.now.reader.cursor)) c.args.self.now) (Opens c.args.self.now.reader c.open.new.self.reader) c.open.new.self) (c.in_ok-block.was ∙ ap Ok c.in-Case.is) c.open.ensures.says) c.inner.new.self c.drop_nodes.new.self c.in_ok-tag-in-Case.tag c.count-at.result c.count-at.ensures c.inner.ensures.went c.in_ok-tag-in-Case.ensures.met c.in_ok-tag-in-Case.ensures.says c.drop_nodes.ensures.sets c.drop_nodes.ensures.cutter c.drop_nodes.ensures.end c.rest.new.self c.in_err-then-in-Case.field-0.0 c.in_err-then-in-Case.ensures.says n h)
 
 pub block-returns-in_err-then-in-Case-clause-went : goal.block-returns-in_err-then-in-Case-clause-went
 block-returns-in_err-then-in-Case-clause-went t c =
@@ -167,7 +168,7 @@ block-returns-in_err-then-in-Case-clause-went t c =
     rest
 
 pub block-returns-in_ok-then-in-Case-clause-says : goal.block-returns-in_ok-then-in-Case-clause-says
-block-returns-in_ok-then-in-Case-clause-says t c = case_whole c.args.room c.args.kind c.args.self.now c.open.new.self c.open.ensures.went c.open.ensures.cutter c.in-Case.target (subst (λ r. Did r (taken (judged (opens c.args.room c.args.self.now.reader.mark (opened c.args.kind c.args.self.now.reader.mark)) (ahead c.args.self.now.reader.cursor)) c.args.self.now) (Opens c.args.self.now c.open.new.self) c.open.new.self) (c.in_ok-block.was ∙ ap Ok c.in-Case.is) c.open.ensures.says) c.inner.new.self c.drop_nodes.new.self c.in_ok-tag-in-Case.tag c.count-at.result c.count-at.ensures c.inner.ensures.went c.in_ok-tag-in-Case.ensures.met c.in_ok-tag-in-Case.ensures.says c.drop_nodes.ensures.sets c.drop_nodes.ensures.cutter c.drop_nodes.ensures.end c.rest.new.self c.set_node-in-Case.new.self c.count-end-in-Case.result c.args.self.now.reader.mark c.in_ok-then-in-Case.then c.count-end-in-Case.ensures refl c.rest.ensures.went c.in_ok-then-in-Case.ensures.says c.set_node-in-Case.ensures.sets c.set_node-in-Case.ensures.cutter
+block-returns-in_ok-then-in-Case-clause-says t c = case_whole c.args.room c.args.kind c.args.self.now c.open.new.self c.open.ensures.went c.open.ensures.cutter c.in-Case.target (subst (λ r. Did r (taken (judged (opens c.args.room c.args.self.now.reader.mark (opened c.args.kind c.args.self.now.reader.mark)) (ahead c.args.self.now.reader.cursor)) c.args.self.now) (Opens c.args.self.now.reader c.open.new.self.reader) c.open.new.self) (c.in_ok-block.was ∙ ap Ok c.in-Case.is) c.open.ensures.says) c.inner.new.self c.drop_nodes.new.self c.in_ok-tag-in-Case.tag c.count-at.result c.count-at.ensures c.inner.ensures.went c.in_ok-tag-in-Case.ensures.met c.in_ok-tag-in-Case.ensures.says c.drop_nodes.ensures.sets c.drop_nodes.ensures.cutter c.drop_nodes.ensures.end c.rest.new.self c.set_node-in-Case.new.self c.count-end-in-Case.result c.args.self.now.reader.mark c.in_ok-then-in-Case.then c.count-end-in-Case.ensures refl c.rest.ensures.went c.in_ok-then-in-Case.ensures.says c.set_node-in-Case.ensures.sets c.set_node-in-Case.ensures.cutter
 
 pub block-returns-in_ok-then-in-Case-clause-went : goal.block-returns-in_ok-then-in-Case-clause-went
 block-returns-in_ok-then-in-Case-clause-went t c =
@@ -218,13 +219,13 @@ rest-returns-in_err-follow-clause-says t c =
     (rest_refused c.args.room c.args.kind c.args.self.now c.follow.new.self c.args.tag c.follow.ensures.went c.follow.ensures.cutter c.in_err-follow.field-0.0 c.in_err-follow.ensures.says n h)
 
 pub rest-returns-in-End-clause-says : goal.rest-returns-in-End-clause-says
-rest-returns-in-End-clause-says t c = rest_end c.args.room c.args.kind c.args.self.now c.follow.new.self c.args.tag c.follow.ensures.went c.follow.ensures.cutter (subst (λ r. Did r (taken (judged (follows c.args.kind (tag_in c.args.self.now c.args.tag)) (ahead c.args.self.now.reader.cursor)) c.args.self.now) (Follows c.args.self.now c.follow.new.self) c.follow.new.self) (c.in_ok-follow.was ∙ ap Ok c.in-End.is) c.follow.ensures.says)
+rest-returns-in-End-clause-says t c = rest_end c.args.room c.args.kind c.args.self.now c.follow.new.self c.args.tag c.follow.ensures.went c.follow.ensures.cutter (subst (λ r. Did r (taken (judged (follows c.args.kind (tag_in c.args.self.now c.args.tag)) (ahead c.args.self.now.reader.cursor)) c.args.self.now) (Follows c.args.self.now.reader c.follow.new.self.reader) c.follow.new.self) (c.in_ok-follow.was ∙ ap Ok c.in-End.is) c.follow.ensures.says)
 
 pub rest-returns-in_err-tag-in-Else-clause-says : goal.rest-returns-in_err-tag-in-Else-clause-says
 rest-returns-in_err-tag-in-Else-clause-says t c =
     λ n h.
     did_err c.from_residual-in_err-tag-in-Else.result _ _ _ c.in_err-tag-in-Else.field-0.0 c.from_residual-in_err-tag-in-Else.ensures.1
-    (else_inner_refused c.args.room c.args.kind c.args.self.now c.follow.new.self c.inner.new.self c.args.tag c.follow.ensures.went c.follow.ensures.cutter (subst (λ r. Did r (taken (judged (follows c.args.kind (tag_in c.args.self.now c.args.tag)) (ahead c.args.self.now.reader.cursor)) c.args.self.now) (Follows c.args.self.now c.follow.new.self) c.follow.new.self) (c.in_ok-follow.was ∙ ap Ok c.in-Else.is) c.follow.ensures.says) c.in_err-tag-in-Else.field-0.0 c.in_err-tag-in-Else.ensures.says n h)
+    (else_inner_refused c.args.room c.args.kind c.args.self.now c.follow.new.self c.inner.new.self c.args.tag c.follow.ensures.went c.follow.ensures.cutter (subst (λ r. Did r (taken (judged (follows c.args.kind (tag_in c.args.self.now c.args.tag)) (ahead c.args.self.now.reader.cursor)) c.args.self.now) (Follows c.args.self.now.reader c.follow.new.self.reader) c.follow.new.self) (c.in_ok-follow.was ∙ ap Ok c.in-Else.is) c.follow.ensures.says) c.in_err-tag-in-Else.field-0.0 c.in_err-tag-in-Else.ensures.says n h)
 
 pub rest-returns-in_err-tag-in-Else-clause-went : goal.rest-returns-in_err-tag-in-Else-clause-went
 rest-returns-in_err-tag-in-Else-clause-went t c = went_then c.args.self.now c.follow.new.self c.inner.new.self c.follow.ensures.went c.inner.ensures.went
@@ -233,7 +234,7 @@ pub rest-returns-in_err-last-in-Else-clause-says : goal.rest-returns-in_err-last
 rest-returns-in_err-last-in-Else-clause-says t c =
     λ n h.
     did_err c.from_residual-in_err-last-in-Else.result _ _ _ c.in_err-last-in-Else.field-0.0 c.from_residual-in_err-last-in-Else.ensures.1
-    (else_last_refused c.args.room c.args.kind c.args.self.now c.follow.new.self c.inner.new.self c.args.tag c.follow.ensures.went c.follow.ensures.cutter (subst (λ r. Did r (taken (judged (follows c.args.kind (tag_in c.args.self.now c.args.tag)) (ahead c.args.self.now.reader.cursor)) c.args.self.now) (Follows c.args.self.now c.follow.new.self) c.follow.new.self) (c.in_ok-follow.was ∙ ap Ok c.in-Else.is) c.follow.ensures.says) c.last.new.self c.in_ok-tag-in-Else.tag c.in_ok-tag-in-Else.ensures.says c.in_err-last-in-Else.field-0.0 c.in_err-last-in-Else.ensures.says n h)
+    (else_last_refused c.args.room c.args.kind c.args.self.now c.follow.new.self c.inner.new.self c.args.tag c.follow.ensures.went c.follow.ensures.cutter (subst (λ r. Did r (taken (judged (follows c.args.kind (tag_in c.args.self.now c.args.tag)) (ahead c.args.self.now.reader.cursor)) c.args.self.now) (Follows c.args.self.now.reader c.follow.new.self.reader) c.follow.new.self) (c.in_ok-follow.was ∙ ap Ok c.in-Else.is) c.follow.ensures.says) c.last.new.self c.in_ok-tag-in-Else.tag c.in_ok-tag-in-Else.ensures.says c.in_err-last-in-Else.field-0.0 c.in_err-last-in-Else.ensures.says n h)
 
 pub rest-returns-in_err-last-in-Else-clause-went : goal.rest-returns-in_err-last-in-Else-clause-went
 rest-returns-in_err-last-in-Else-clause-went t c = went_then c.args.self.now c.inner.new.self c.last.new.self (went_then c.args.self.now c.follow.new.self c.inner.new.self c.follow.ensures.went c.inner.ensures.went) c.last.ensures.went
@@ -242,19 +243,19 @@ pub rest-returns-in_ok-last-in-Else-clause-went : goal.rest-returns-in_ok-last-i
 rest-returns-in_ok-last-in-Else-clause-went t c = went_then c.args.self.now c.inner.new.self c.last.new.self (went_then c.args.self.now c.follow.new.self c.inner.new.self c.follow.ensures.went c.inner.ensures.went) c.last.ensures.went
 
 pub rest-returns-in_ok-last-in-Else-clause-says : goal.rest-returns-in_ok-last-in-Else-clause-says
-rest-returns-in_ok-last-in-Else-clause-says t c = rest_else c.args.room c.args.kind c.args.self.now c.follow.new.self c.inner.new.self c.args.tag c.follow.ensures.went c.follow.ensures.cutter (subst (λ r. Did r (taken (judged (follows c.args.kind (tag_in c.args.self.now c.args.tag)) (ahead c.args.self.now.reader.cursor)) c.args.self.now) (Follows c.args.self.now c.follow.new.self) c.follow.new.self) (c.in_ok-follow.was ∙ ap Ok c.in-Else.is) c.follow.ensures.says) c.last.new.self c.in_ok-tag-in-Else.tag c.in_ok-tag-in-Else.ensures.says c.inner.ensures.went c.last.ensures.went c.in_ok-last-in-Else.ensures.says
+rest-returns-in_ok-last-in-Else-clause-says t c = rest_else c.args.room c.args.kind c.args.self.now c.follow.new.self c.inner.new.self c.args.tag c.follow.ensures.went c.follow.ensures.cutter (subst (λ r. Did r (taken (judged (follows c.args.kind (tag_in c.args.self.now c.args.tag)) (ahead c.args.self.now.reader.cursor)) c.args.self.now) (Follows c.args.self.now.reader c.follow.new.self.reader) c.follow.new.self) (c.in_ok-follow.was ∙ ap Ok c.in-Else.is) c.follow.ensures.says) c.last.new.self c.in_ok-tag-in-Else.tag c.in_ok-tag-in-Else.ensures.says c.inner.ensures.went c.last.ensures.went c.in_ok-last-in-Else.ensures.says
 
 pub rest-returns-in_err-arm-in-Arm-clause-says : goal.rest-returns-in_err-arm-in-Arm-clause-says
 rest-returns-in_err-arm-in-Arm-clause-says t c =
     λ n h.
     did_err c.from_residual-in_err-arm-in-Arm.result _ _ _ c.in_err-arm-in-Arm.field-0.0 c.from_residual-in_err-arm-in-Arm.ensures.1
-    (rest_arm_refused c.args.room c.args.kind c.args.self.now c.follow.new.self c.arm.new.self c.args.tag c.in-Arm.guard c.follow.ensures.went c.follow.ensures.cutter (subst (λ r. Did r (taken (judged (follows c.args.kind (tag_in c.args.self.now c.args.tag)) (ahead c.args.self.now.reader.cursor)) c.args.self.now) (Follows c.args.self.now c.follow.new.self) c.follow.new.self) (c.in_ok-follow.was ∙ ap Ok c.in-Arm.is) c.follow.ensures.says) c.in_err-arm-in-Arm.field-0.0 c.in_err-arm-in-Arm.ensures.says n h)
+    (rest_arm_refused c.args.room c.args.kind c.args.self.now c.follow.new.self c.arm.new.self c.args.tag c.in-Arm.guard c.follow.ensures.went c.follow.ensures.cutter (subst (λ r. Did r (taken (judged (follows c.args.kind (tag_in c.args.self.now c.args.tag)) (ahead c.args.self.now.reader.cursor)) c.args.self.now) (Follows c.args.self.now.reader c.follow.new.self.reader) c.follow.new.self) (c.in_ok-follow.was ∙ ap Ok c.in-Arm.is) c.follow.ensures.says) c.in_err-arm-in-Arm.field-0.0 c.in_err-arm-in-Arm.ensures.says n h)
 
 pub rest-returns-in_err-arm-in-Arm-clause-went : goal.rest-returns-in_err-arm-in-Arm-clause-went
 rest-returns-in_err-arm-in-Arm-clause-went t c = went_then c.args.self.now c.follow.new.self c.arm.new.self c.follow.ensures.went c.arm.ensures.went
 
 pub rest-returns-in_ok-arm-in-Arm-clause-says : goal.rest-returns-in_ok-arm-in-Arm-clause-says
-rest-returns-in_ok-arm-in-Arm-clause-says t c = rest_arm c.args.room c.args.kind c.args.self.now c.follow.new.self c.arm.new.self c.args.tag c.in-Arm.guard c.follow.ensures.went c.follow.ensures.cutter (subst (λ r. Did r (taken (judged (follows c.args.kind (tag_in c.args.self.now c.args.tag)) (ahead c.args.self.now.reader.cursor)) c.args.self.now) (Follows c.args.self.now c.follow.new.self) c.follow.new.self) (c.in_ok-follow.was ∙ ap Ok c.in-Arm.is) c.follow.ensures.says) c.set_node.new.self c.count-at.result c.in_ok-arm-in-Arm.arm c.count-at.ensures c.arm.ensures.went c.in_ok-arm-in-Arm.ensures.says c.set_node.ensures.sets c.set_node.ensures.cutter
+rest-returns-in_ok-arm-in-Arm-clause-says t c = rest_arm c.args.room c.args.kind c.args.self.now c.follow.new.self c.arm.new.self c.args.tag c.in-Arm.guard c.follow.ensures.went c.follow.ensures.cutter (subst (λ r. Did r (taken (judged (follows c.args.kind (tag_in c.args.self.now c.args.tag)) (ahead c.args.self.now.reader.cursor)) c.args.self.now) (Follows c.args.self.now.reader c.follow.new.self.reader) c.follow.new.self) (c.in_ok-follow.was ∙ ap Ok c.in-Arm.is) c.follow.ensures.says) c.set_node.new.self c.count-at.result c.in_ok-arm-in-Arm.arm c.count-at.ensures c.arm.ensures.went c.in_ok-arm-in-Arm.ensures.says c.set_node.ensures.sets c.set_node.ensures.cutter
 
 pub rest-returns-in_ok-arm-in-Arm-clause-went : goal.rest-returns-in_ok-arm-in-Arm-clause-went
 rest-returns-in_ok-arm-in-Arm-clause-went t c =
