@@ -5,3 +5,4 @@ pub mod Standing
 pub mod Tables
 pub mod Reading
 pub mod Marks
+pub mod Lengths

@@ -10,6 +10,7 @@ use nodes::table::Node;
 
 pub mod chains;
 pub mod entries;
+pub mod lengths;
 pub mod lists;
 pub mod marks;
 pub mod values;

@@ -5,3 +5,6 @@ pub mod Setting
 pub mod Arming
 pub mod Opening
 pub mod Beginning
+pub mod Guards
+pub mod Leaving
+pub mod Whole

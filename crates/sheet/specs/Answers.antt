@@ -173,3 +173,10 @@ RestRead room b w p r q =
 -- the nodes are the same
 abbrev pub Same : Parser → Parser → Prim.Unit {0} → Prim.Unit {0} → Type 0
 Same p q u y = nodes_of q ≡ nodes_of p
+
+-- the tables have only grown
+pub record Grew (p q : Parser) : Type 0 where
+  pub pool : Wider (pool_of p.reader) (pool_of q.reader)
+  pub names : Front (vec_items p.reader.names) (vec_items q.reader.names)
+  pub cycles : Front (vec_items p.reader.cycles) (vec_items q.reader.cycles)
+  pub nodes : Front (nodes_of p) (nodes_of q)

@@ -1,5 +1,5 @@
 -- How blocks open, and what follows behind their elements.
-use Rattle.std.specs.Prelude.{ℕ, cond, List, None, codes, nat_lt}
+use Rattle.std.specs.Prelude.{ℕ, cond, List, nat_lt}
 use Rattle.cutter.specs.Words.{Words}
 use Rattle.tree.specs.Expressions.{Expr}
 use Rattle.tree.specs.Elements.{Leaf, Block, if_block, for_block, tablerow_block, capture_block, ifchanged_block, Guard, holds, fails as does_not_hold, equals_one, has_items, always}
@@ -11,7 +11,7 @@ use Rattle.tags.specs.Whens.{whens}
 use Rattle.tags.specs.Cycles.{cycle_tag}
 use Rattle.tags.specs.Loops.{header}
 use Rattle.tags.specs.declared.stdlib.blocks.for_block.Loop.TheVariants.{For as for_loop, Tablerow as tablerow_loop}
-use Rattle.sheet.specs.Names.{closer}
+use Rattle.sheet.specs.Names.{end_tag, closer}
 use Rattle.sheet.specs.declared.names.Simple.{Simple}
 use Rattle.sheet.specs.declared.names.Simple.TheVariants as simple
 use Rattle.sheet.specs.declared.names.Block as code
@@ -93,16 +93,6 @@ opened kind.Tablerow p = opened_tablerow p
 opened kind.Capture p = opened_capture p
 opened kind.Ifchanged p = opened_ifchanged
 
--- the name of the end tag
-abbrev pub end_tag : code.Block → List ℕ
-end_tag kind.If = codes "endif"
-end_tag kind.Unless = codes "endunless"
-end_tag kind.Case = codes "endcase"
-end_tag kind.For = codes "endfor"
-end_tag kind.Tablerow = codes "endtablerow"
-end_tag kind.Capture = codes "endcapture"
-end_tag kind.Ifchanged = codes "endifchanged"
-
 -- What follows behind elements of a block: its end; an `else`; or another arm, with its guard.
 pub data Following : Type 0 where
   the_end : Following
@@ -127,26 +117,38 @@ closed t closing.Other = unknown t
 abbrev pub only_end : Tag → Closer → Judge Following
 only_end t c = closed t c next λ _. pure the_end
 
+-- an `else` without arguments
+abbrev pub bare_else : Judge Following
+bare_else = finished next λ _. pure an_else
+
+-- an `elsif`, whose mark is at this place
+unfoldable pub elsif : ℕ → Judge Following
+elsif m = behind_node m (condition m) next λ c. pure (an_arm (holds c))
+
+-- a `when`, whose mark is at this place
+unfoldable pub when : ℕ → Judge Following
+when m = behind_node m (whens m) next λ xs. pure (an_arm (equals_one xs))
+
 -- `if` and `unless`: `elsif`, `else`, whose arguments do not matter, or the end tag
-abbrev pub in_if : Tag → Closer → Judge Following
+unfoldable pub in_if : Tag → Closer → Judge Following
 in_if t closing.End = ended
 in_if t closing.Else = pure an_else
-in_if t closing.Elsif = behind_node t.mark (condition t.mark) next λ c. pure (an_arm (holds c))
+in_if t closing.Elsif = elsif t.mark
 in_if t closing.When = unknown t
 in_if t closing.Other = unknown t
 
 -- `case`: `when`, `else`, or the end tag
-abbrev pub in_case : Tag → Closer → Judge Following
+unfoldable pub in_case : Tag → Closer → Judge Following
 in_case t closing.End = ended
-in_case t closing.Else = finished next λ _. pure an_else
+in_case t closing.Else = bare_else
 in_case t closing.Elsif = unknown t
-in_case t closing.When = behind_node t.mark (whens t.mark) next λ xs. pure (an_arm (equals_one xs))
+in_case t closing.When = when t.mark
 in_case t closing.Other = unknown t
 
 -- `for`: `else`, or the end tag
-abbrev pub in_for : Tag → Closer → Judge Following
+unfoldable pub in_for : Tag → Closer → Judge Following
 in_for t closing.End = ended
-in_for t closing.Else = finished next λ _. pure an_else
+in_for t closing.Else = bare_else
 in_for t closing.Elsif = unknown t
 in_for t closing.When = unknown t
 in_for t closing.Other = unknown t

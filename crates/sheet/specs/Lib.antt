@@ -5,3 +5,7 @@ pub mod Opening
 pub mod Parsing
 pub mod Standing
 pub mod Answers
+pub mod Loading
+pub mod Parts
+pub mod Templates
+pub mod Sheets

@@ -42,6 +42,16 @@ known_by None b = option_map known.Block b
 abbrev pub known_as : List ℕ → Option Known
 known_as n = known_by (simple_as n) (block_as n)
 
+-- the name of the end tag
+abbrev pub end_tag : Block → List ℕ
+end_tag block.If = codes "endif"
+end_tag block.Unless = codes "endunless"
+end_tag block.Case = codes "endcase"
+end_tag block.For = codes "endfor"
+end_tag block.Tablerow = codes "endtablerow"
+end_tag block.Capture = codes "endcapture"
+end_tag block.Ifchanged = codes "endifchanged"
+
 -- what a tag that begins no element is to a block whose end tag has the name e
 abbrev pub closer : List ℕ → List ℕ → Closer
 closer e n =

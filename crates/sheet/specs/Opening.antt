@@ -1,13 +1,15 @@
 -- What the functions answer that read the tags of blocks.
-use Rattle.std.specs.Prelude.{◌≡◌, ℕ, ◌+◌, ◌<◌, List, length, Some, vec_items}
+use Rattle.std.specs.Prelude.{◌≡◌, ℕ, ◌+◌, ◌<◌, List, [], ◌∷◌, ◌++◌, length, Some, vec_items}
 use Rattle.cutter.specs.Ahead.{ahead}
 use Rattle.cutter.specs.declared.places.Placed.{Placed}
 use Rattle.tree.specs.Elements as tree
 use Rattle.nodes.specs.declared.table.Arm.{Arm}
 use Rattle.nodes.specs.declared.table.Guard.{Guard}
+use Rattle.nodes.specs.declared.table.Leaf.{Leaf}
 use Rattle.nodes.specs.declared.table.Node.{Node}
+use Rattle.nodes.specs.declared.table.Node.TheVariants as node
 use Rattle.nodes.specs.Exprs.{Pool, expr_of}
-use Rattle.nodes.specs.Trees.{block_of, guard_of}
+use Rattle.nodes.specs.Trees.{leaf_of, block_of, guard_of}
 use Rattle.arguments.specs.declared.reader.Reader.{Reader}
 use Rattle.arguments.specs.Judging.{seen}
 use Rattle.arguments.specs.Tables.{pool_of}
@@ -26,6 +28,12 @@ long d = length (nodes_in d)
 -- the tag of the mark that is read, by its name
 abbrev pub tag_of : Reader → Placed → Tag
 tag_of d w = tag d.mark (seen w.place w.bytes.now) (ahead d.cursor)
+
+-- a leaf, whose node stands last
+pub record Leafed (place : ℕ) (d e : Reader) (u : Prim.Unit {0}) (y : tree.Leaf) : Type 0 where
+  pub leaf : Leaf
+  pub nodes : nodes_in e ≡ nodes_in d ++ (node.Leaf place leaf ∷ [])
+  pub is : leaf_of (pool_of e) leaf ≡ Some y
 
 -- what decides about an arm whose node is at this place, and whose elements begin at `body`
 abbrev pub GuardIn : Pool → List Node → ℕ → ℕ → Guard → tree.Guard → Type 0

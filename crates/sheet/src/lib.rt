@@ -5,7 +5,13 @@
 mod blocks;
 mod elements;
 mod leaves;
+mod loading;
 mod names;
 mod parser;
+mod parts;
 mod pieces;
+mod reading;
+mod stdlib;
+pub mod sheet;
 mod table;
+pub mod templates;

@@ -1,7 +1,7 @@
 // The names of tags.
 // Chains of tests, and no `match` on texts: a match on so many is not proved.
 ghost use Rattle.std.specs.Prelude.{◌≡◌};
-ghost use Rattle.sheet.specs.Names.{simple_as, block_as, known_as, closer};
+ghost use Rattle.sheet.specs.Names.{end_tag, simple_as, block_as, known_as, closer};
 
 use tray::parts::same_text;
 
@@ -43,6 +43,23 @@ pub(crate) enum Closer {
     Elsif,
     When,
     Other,
+}
+
+impl Block {
+    /// The name of its end tag.
+    pub(crate) fn end_tag(self) -> &'static [u8]
+        ensures { result.now ≡ end_tag self }
+    {
+        match self {
+            Block::If => b"endif",
+            Block::Unless => b"endunless",
+            Block::Case => b"endcase",
+            Block::For => b"endfor",
+            Block::Tablerow => b"endtablerow",
+            Block::Capture => b"endcapture",
+            Block::Ifchanged => b"endifchanged",
+        }
+    }
 }
 
 fn simple_as(name: &[u8]) -> Option<Simple>

@@ -52,8 +52,8 @@ compared m x (Some c) = value m next λ y. pure (compares x c y)
 unfoldable pub tested : ℕ → Judge Test
 tested m = first m next λ x. token_if comparison next λ c. compared m x c
 
-unfoldable pub test : ℕ → Judge Test
-test m = tested m next λ t. one_more next λ _. pure t
+unfoldable pub a_test : ℕ → Judge Test
+a_test m = tested m next λ t. one_more next λ _. pure t
 
 abbrev pub joint : Seen → Option Joint
 joint w =
@@ -79,7 +79,7 @@ joined k t (Some j) = joining j next λ _. k next λ c. pure (join j t c)
 -- tests with `and` and `or` between them, up to the end of the mark; of at most n of them, grouped from the right
 abbrev pub condition_of : ℕ → ℕ → Judge Condition
 condition_of zero m = token m next λ w. too_many w
-condition_of (suc n) m = test m next λ t. token_if joint next λ j. joined (condition_of n m) t j
+condition_of (suc n) m = a_test m next λ t. token_if joint next λ j. joined (condition_of n m) t j
 
 -- a condition: at most sixteen tests
 unfoldable pub condition : ℕ → Judge Condition

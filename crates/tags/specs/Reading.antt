@@ -9,6 +9,7 @@ use Rattle.nodes.specs.declared.exprs.Comparison.{Comparison}
 use Rattle.nodes.specs.declared.exprs.Expr.{Expr}
 use Rattle.nodes.specs.declared.exprs.Span.{Span}
 use Rattle.nodes.specs.declared.table.Leaf.{Leaf}
+use Rattle.nodes.specs.declared.table.Leaf.TheVariants.{Cycle}
 use Rattle.nodes.specs.declared.table.Node.{Node}
 use Rattle.nodes.specs.declared.table.Node.TheVariants as node
 use Rattle.nodes.specs.Exprs.{Pool, each, comparison_of, expr_of, values_of, if_any}
@@ -56,6 +57,14 @@ Roomy (Err e) m s = Refuses e (first m s)
 
 abbrev pub Values : Pool → Span → List expression.Expr → Type 0
 Values b x ys = values_of b x ≡ Some ys
+
+-- all values that entered
+pub record Whole (d e : Reader) (s : Span) : Type 0 where
+  pub from : s.from ≡ length (vec_items d.values)
+  pub to : s.from + s.count ≡ length (vec_items e.values)
+
+abbrev pub WholeCycle : Reader → Reader → Leaf → Type 0
+WholeCycle d e l = (n : ℕ) × (s : Span) × (l ≡ Cycle n s) × Whole d e s
 
 -- values that stand in the table behind others
 pub record Added (old : List Expr) (b : Pool) (u : Prim.Unit {0}) (ys : List expression.Expr) : Type 0 where

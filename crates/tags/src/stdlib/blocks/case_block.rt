@@ -1,9 +1,9 @@
 // The values of a `when`.
-ghost use Rattle.std.specs.Prelude.{◌≡◌, vec_items};
+ghost use Rattle.std.specs.Prelude.{◌≡◌, IfOk, vec_items};
 ghost use Rattle.arguments.specs.Judging.{token_if, seen};
 ghost use Rattle.arguments.specs.Tables.{pool_of, under, Said, Grown, Longer, Is};
 ghost use Rattle.tags.specs.Whens.{is_separator, separator, whens_of, whens};
-ghost use Rattle.tags.specs.Reading.{Values, Added};
+ghost use Rattle.tags.specs.Reading.{Values, Whole, Added};
 
 use arguments::reader::Reader;
 use arguments::reader::entries::too_many;
@@ -61,6 +61,7 @@ fn enter_values(reader: &mut Reader<'_>, left: usize) -> Result<(), Stop>
 pub fn parse_values(reader: &mut Reader<'_>) -> Result<Span, Stop>
     ensures says { Said result (whens reader.old.mark (under reader.old)) (Values (pool_of reader.new)) (under reader.new) }
     ensures nodes { vec_items reader.new.nodes ≡ vec_items reader.old.nodes }
+    ensures whole { IfOk result (Whole reader.old reader.new) }
     ensures longer { Longer reader.old reader.new }
 {
     let from = reader.values.len();

@@ -5,7 +5,7 @@ ghost use Rattle.nodes.specs.Exprs.{comparison_of};
 ghost use Rattle.arguments.specs.Judging.{token_if, seen};
 ghost use Rattle.arguments.specs.Tables.{pool_of, under, Said, Grown, Longer, Is};
 ghost use Rattle.arguments.specs.Reading.{Exprs};
-ghost use Rattle.tags.specs.Conditions.{comparison_by, comparison, first, tested, test, joint, place_of, joining, condition_of, condition};
+ghost use Rattle.tags.specs.Conditions.{comparison_by, comparison, first, tested, a_test, joint, place_of, joining, condition_of, condition};
 ghost use Rattle.tags.specs.Reading.{Comparisons, Roomy, Tests, Last, Stands, node_of};
 
 use arguments::reader::Reader;
@@ -124,9 +124,9 @@ fn tested(reader: &mut Reader<'_>) -> Result<Node, Stop>
 }
 
 // A test, whose node enters.
-#[tactic(auto, using(arguments::proofs::Chaining::said_went, arguments::proofs::Chaining::refuses_went), unfolding(crate::specs::Conditions::test))]
+#[tactic(auto, using(arguments::proofs::Chaining::said_went, arguments::proofs::Chaining::refuses_went), unfolding(crate::specs::Conditions::a_test))]
 fn push_test(reader: &mut Reader<'_>) -> Result<(), Stop>
-    ensures says { Said result (test reader.old.mark (under reader.old)) (Last reader.old reader.new) (under reader.new) }
+    ensures says { Said result (a_test reader.old.mark (under reader.old)) (Last reader.old reader.new) (under reader.new) }
     ensures longer { Longer reader.old reader.new }
 {
     let node = tested(reader)?;

@@ -1,5 +1,5 @@
 // The values and the name of a `cycle`.
-ghost use Rattle.std.specs.Prelude.{◌≡◌, true, ◌∷◌, ◌++◌, List, ℕ, length, vec_items};
+ghost use Rattle.std.specs.Prelude.{◌≡◌, true, ◌∷◌, ◌++◌, List, ℕ, IfOk, length, vec_items};
 ghost use Rattle.numerals.specs.Decimal.{whole_text};
 ghost use Rattle.cutter.specs.Words.{Words, word as token};
 ghost use Rattle.cutter.specs.Ahead.{ahead};
@@ -9,7 +9,7 @@ ghost use Rattle.arguments.specs.Values.{read, value_as};
 ghost use Rattle.arguments.specs.Tables.{given_name, pool_of, under, Said, Grown, Longer, Below};
 ghost use Rattle.arguments.specs.Reading.{Valued};
 ghost use Rattle.tags.specs.Cycles.{values_of, given, enter_given, named, unnamed, cycle_tag};
-ghost use Rattle.tags.specs.Reading.{Leaves, Names, Continued};
+ghost use Rattle.tags.specs.Reading.{Leaves, WholeCycle, Names, Continued};
 
 use arguments::reader::Reader;
 use arguments::reader::entries::too_many;
@@ -91,8 +91,7 @@ fn enter_name(reader: &mut Reader<'_>, word: Word<'_>) -> Result<usize, Stop>
         Token::Boolean(true) => reader.enter_given(place, b"true"),
         Token::Boolean(false) => reader.enter_given(place, b"false"),
         Token::Number(n) => enter_number(reader, place, n),
-        Token::Text(bytes) => reader.enter_given(place, bytes),
-        Token::Name(bytes) => reader.enter_given(place, bytes),
+        Token::Text(bytes) | Token::Name(bytes) => reader.enter_given(place, bytes),
         Token::Path(_, _) | Token::Range(_, _) | Token::Symbol(_) => Err(Stop::Refused(
             Refusal::Argument,
             place,
@@ -105,6 +104,7 @@ fn enter_name(reader: &mut Reader<'_>, word: Word<'_>) -> Result<usize, Stop>
 fn named(reader: &mut Reader<'_>, word: Word<'_>) -> Result<Leaf, Stop>
     ensures says { Said result (named (seen word.entry.place word.entry.bytes.now) (under reader.old)) (Leaves (pool_of reader.new)) (under reader.new) }
     ensures nodes { vec_items reader.new.nodes ≡ vec_items reader.old.nodes }
+    ensures whole { IfOk result (WholeCycle reader.old reader.new) }
     ensures longer { Longer reader.old reader.new }
 {
     let cycle = enter_name(reader, word)?;
@@ -135,6 +135,7 @@ fn unnamed<'a>(reader: &mut Reader<'a>, start: Cursor<'a>, word: Word<'a>) -> Re
     requires first { (rest : Words) × ahead start ≡ token word.place word.bytes.now rest }
     ensures says { Said result (unnamed (seen word.entry.place word.entry.bytes.now) (under reader.old)) (Leaves (pool_of reader.new)) (under reader.new) }
     ensures nodes { vec_items reader.new.nodes ≡ vec_items reader.old.nodes }
+    ensures whole { IfOk result (WholeCycle reader.old reader.new) }
     ensures longer { Longer reader.old reader.new }
 {
     let place = word.place;
@@ -154,6 +155,7 @@ fn unnamed<'a>(reader: &mut Reader<'a>, start: Cursor<'a>, word: Word<'a>) -> Re
 pub fn parse(reader: &mut Reader<'_>) -> Result<Leaf, Stop>
     ensures says { Said result (cycle_tag reader.old.mark (under reader.old)) (Leaves (pool_of reader.new)) (under reader.new) }
     ensures nodes { vec_items reader.new.nodes ≡ vec_items reader.old.nodes }
+    ensures whole { IfOk result (WholeCycle reader.old reader.new) }
     ensures longer { Longer reader.old reader.new }
 {
     let start = reader.cursor;
