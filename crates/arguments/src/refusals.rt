@@ -1,6 +1,6 @@
 // Why a template is not loaded.
 ghost use Rattle.std.specs.Prelude.{◌≡◌};
-ghost use Rattle.arguments.specs.Refusals.{number_of};
+ghost use Rattle.arguments.specs.Refusals.{number_of, words_of};
 ghost use Rattle.arguments.specs.declared.refusals.Refusal.TheVariants as refusal;
 ghost use Rattle.arguments.specs.declared.refusals.Stop.TheVariants.{Refused, Memory};
 
@@ -27,6 +27,23 @@ impl Refusal {
         ensures { result ≡ number_of self }
     {
         self as u8
+    }
+
+    /// What the number means.
+    pub fn words(self) -> &'static str
+        ensures { result.now ≡ words_of self }
+    {
+        match self {
+            Refusal::OutsideSource => "the part does not lie inside the source text",
+            Refusal::Limit => "a limit of the sheet is passed",
+            Refusal::Unclosed => "a mark is not closed",
+            Refusal::NoToken => "inside a mark stands something that is no token",
+            Refusal::UnknownTag => "a tag that is unknown here",
+            Refusal::Argument => "argument wrong, missing or left over",
+            Refusal::OpenBlock => "a block is not closed",
+            Refusal::Reserved => "a reserved word stands where a name is wanted",
+            Refusal::UnknownFilter => "a filter name that the bank does not know",
+        }
     }
 }
 

@@ -44,23 +44,24 @@ module _ (room : ℕ) (kind : code.Block) (p q s : Parser) (w : Placed) (k : Wen
       ArmRead room kind guard p (Ok (record { guard = guard; body = body; next = from; then = nx })) s
   arm_made body from nx guard b e r n h f =
       let (y, d, g) = i n f in
-      let (a, arms, v) = r n (omega (arith, m, f)) in
-      (arm h y.tree a,
-      record {
-        body = y.tree;
-        rest = a;
-        is = refl;
-        guard = refl;
-        from = b;
-        order = omega (arith, b, e, front_length _ _ k.nodes);
-        to = omega (arith, e, front_length _ _ l.nodes);
-        elements =
-            body_wider (pool_of q.reader) (nodes_of q) (pool_of s.reader) (nodes_of s) room body from y.tree l.pool (agree_front (nodes_of q) (nodes_of s) body from (omega (arith, e)) l.nodes)
-            (subst (λ x. Body (pool_of q.reader) (nodes_of q) room x from y.tree) (sym b) (subst (λ x. Body (pool_of q.reader) (nodes_of q) room (count p) x y.tree) (sym e) d.0));
-        arms = subst (λ x. ArmsIn (pool_of s.reader) (nodes_of s) nx room x (count s) a) (sym e) arms;
-      },
-      arm_is p.end (elements (source_of p) p.end n room) h (λ t. rests (source_of p) p.end n room kind t) p q y (tag_in q w) g d.1
-      ∙ ap (λ v. followed v (λ a. give (arm h y.tree a))) (rest_at n (tag_in q w) ∙ v))
+      let (a, arms, v) = r n (omega (arith, m, f)) in (
+        arm h y.tree a,
+        record {
+          body = y.tree;
+          rest = a;
+          is = refl;
+          guard = refl;
+          from = b;
+          order = omega (arith, b, e, front_length _ _ k.nodes);
+          to = omega (arith, e, front_length _ _ l.nodes);
+          elements =
+              body_wider (pool_of q.reader) (nodes_of q) (pool_of s.reader) (nodes_of s) room body from y.tree l.pool (agree_front (nodes_of q) (nodes_of s) body from (omega (arith, e)) l.nodes)
+              (subst (λ x. Body (pool_of q.reader) (nodes_of q) room x from y.tree) (sym b) (subst (λ x. Body (pool_of q.reader) (nodes_of q) room (count p) x y.tree) (sym e) d.0));
+          arms = subst (λ x. ArmsIn (pool_of s.reader) (nodes_of s) nx room x (count s) a) (sym e) arms;
+        },
+        arm_is p.end (elements (source_of p) p.end n room) h (λ t. rests (source_of p) p.end n room kind t) p q y (tag_in q w) g d.1
+            ∙ ap (λ v. followed v (λ a. give (arm h y.tree a))) (rest_at n (tag_in q w) ∙ v),
+      )
 
   pub arm_refused : (x : Stop) → RestRead room kind w q (Err x) s → (n : ℕ) (h : tree.Guard) → pieces (cut_of p) < n →
       Fails x (taken (arm_of p.end (elements (source_of p) p.end n room) h (λ t. rests (source_of p) p.end n room kind t)) p)
@@ -120,10 +121,14 @@ module _ (room : ℕ) (kind : code.Block) (p q : Parser) (w : Placed) (k : Went 
     went_on : (n : ℕ) → suc (pieces (cut_of p)) < n → (m : ℕ) × (pieces (cut_of q) < m) × (y : Following) × Follows p.reader q.reader f y × (taken (rests (source_of p) p.end n room kind (tag_in p w)) p ≡ go_on m y)
     went_on n h =
         let (m, e, g) = follow_fuel n h in
-        let (y, r, is) = d in
-        (m, omega (arith, g, k.pieces), y, r,
-        ap (λ i. taken (rests (source_of p) p.end i room kind (tag_in p w)) p) e ∙ rest_step m
-        ∙ ap (λ v. followed v (λ x. continued p.end (elements (source_of p) p.end m room) kind (λ t. rests (source_of p) p.end m room kind t) x)) is)
+        let (y, r, is) = d in (
+          m,
+          omega (arith, g, k.pieces),
+          y,
+          r,
+          ap (λ i. taken (rests (source_of p) p.end i room kind (tag_in p w)) p) e ∙ rest_step m
+              ∙ ap (λ v. followed v (λ x. continued p.end (elements (source_of p) p.end m room) kind (λ t. rests (source_of p) p.end m room kind t) x)) is,
+        )
 
 module _ (room : ℕ) (kind : code.Block) (p q : Parser) (w : Placed) (k : Went p q) (c : q.cutter ≡ p.cutter) where
   pub rest_end : Did (Ok following.End) (taken (judged (follows kind (tag_in p w)) (ahead p.reader.cursor)) p) (Follows p.reader q.reader) q → RestRead room kind w p (Ok next.Nothing) q
@@ -172,11 +177,12 @@ module _ (room : ℕ) (kind : code.Block) (p q s : Parser) (w : Placed) (k : Wen
         let (z, same, closed) = l in
         let from : count p ≡ count q = ap length (sym e) in
         let body = body_wider (pool_of s.reader) (nodes_of s) (pool_of u.reader) (nodes_of u) room (count q) (count s) y.tree su.pool (agree_front (nodes_of s) (nodes_of u) (count q) (count s) (omega arith) su.nodes) b.0 in
-        let arms = arms_else (pool_of u.reader) (nodes_of u) room (count q) (count s) y.tree (front_length _ _ qs.nodes) body in
-        (arm always y.tree no_arms,
-        subst (λ a. ArmsIn (pool_of u.reader) (nodes_of u) next.Else room a (count u) (arm always y.tree no_arms)) (sym from)
-        (subst (λ a. ArmsIn (pool_of u.reader) (nodes_of u) next.Else room (count q) a (arm always y.tree no_arms)) (sym (ap length same)) arms),
-        is ∙ last_is m y g b.1 ∙ ap (λ t. followed (followed t (λ z. give no_arms)) (λ a. give (arm always y.tree a))) closed)
+        let arms = arms_else (pool_of u.reader) (nodes_of u) room (count q) (count s) y.tree (front_length _ _ qs.nodes) body in (
+          arm always y.tree no_arms,
+          subst (λ a. ArmsIn (pool_of u.reader) (nodes_of u) next.Else room a (count u) (arm always y.tree no_arms)) (sym from)
+              (subst (λ a. ArmsIn (pool_of u.reader) (nodes_of u) next.Else room (count q) a (arm always y.tree no_arms)) (sym (ap length same)) arms),
+          is ∙ last_is m y g b.1 ∙ ap (λ t. followed (followed t (λ z. give no_arms)) (λ a. give (arm always y.tree a))) closed,
+        )
 
 -- another arm
 module _ (room : ℕ) (kind : code.Block) (p q s : Parser) (w : Placed) (guard : Guard) (k : Went p q) (c : q.cutter ≡ p.cutter) (d : Did (Ok (following.Arm guard)) (taken (judged (follows kind (tag_in p w)) (ahead p.reader.cursor)) p) (Follows p.reader q.reader) q) where
@@ -205,7 +211,8 @@ module _ (room : ℕ) (kind : code.Block) (p q s : Parser) (w : Placed) (guard :
       let (arms, made, v) = r m y f in
       let before : at < count q = omega (arith, e, b) in
       let here = arm_set room at guard y q s u (node.Arm a) l x before a arms (subst (λ i. GuardIn (pool_of q.reader) (nodes_of q) i (count q) guard y) (sym e) g) made in
-      let there = arms_node (pool_of u.reader) (nodes_of u) room at (count u) a arms (set_at room at guard y q s u (node.Arm a) l x before) (node_there room at guard y q s u (node.Arm a) l x before) here in
-      (arms,
-      subst (λ i. ArmsIn (pool_of u.reader) (nodes_of u) next.Arm room i (count u) arms) e there,
-      is ∙ v ∙ ap₂ (λ z t. gives arms z t) (ap Rattle.cutter.specs.Left.left (sym cut)) (sym (lists_same s u at (node.Arm a) x)))
+      let there = arms_node (pool_of u.reader) (nodes_of u) room at (count u) a arms (set_at room at guard y q s u (node.Arm a) l x before) (node_there room at guard y q s u (node.Arm a) l x before) here in (
+        arms,
+        subst (λ i. ArmsIn (pool_of u.reader) (nodes_of u) next.Arm room i (count u) arms) e there,
+        is ∙ v ∙ ap₂ (λ z t. gives arms z t) (ap Rattle.cutter.specs.Left.left (sym cut)) (sym (lists_same s u at (node.Arm a) x)),
+      )

@@ -54,11 +54,12 @@ pub leaf_did : (r : Result (Prim.Unit {0}) Stop) (m : ℕ) (j : Judge tree.Leaf)
 leaf_did (Ok u) m j p q h c =
     let (y, d, e) = h in
     let grew : count q ≡ count p + 1 = ap length d.nodes ∙ length-append (nodes_of p) (node.Leaf m d.leaf ∷ []) in
-    let there : slice_get (nodes_of q) (count p) ≡ Some (node.Leaf m d.leaf) = ap (λ l. slice_get l (count p)) d.nodes ∙ get_last (nodes_of p) (node.Leaf m d.leaf) in
-    (a_leaf m y,
-    (λ room. subst (λ i. Leads (pool_of q.reader) (nodes_of q) room (count p) i (λ t. tree.leaf m y t)) (sym grew)
-    (leads_leaf (pool_of q.reader) (nodes_of q) room (count p) (count p) (λ t. t) m d.leaf y (omega arith) there d.is (leads_none (pool_of q.reader) (nodes_of q) room (count p)))),
-    ap (λ v. followed (settled v (cut_of p)) (λ x. give (a_leaf m x))) e ∙ ap (λ t. gives (a_leaf m y) t (lists_of q.reader)) (ap left (sym c)))
+    let there : slice_get (nodes_of q) (count p) ≡ Some (node.Leaf m d.leaf) = ap (λ l. slice_get l (count p)) d.nodes ∙ get_last (nodes_of p) (node.Leaf m d.leaf) in (
+      a_leaf m y,
+      (λ room. subst (λ i. Leads (pool_of q.reader) (nodes_of q) room (count p) i (λ t. tree.leaf m y t)) (sym grew)
+          (leads_leaf (pool_of q.reader) (nodes_of q) room (count p) (count p) (λ t. t) m d.leaf y (omega arith) there d.is (leads_none (pool_of q.reader) (nodes_of q) room (count p)))),
+      ap (λ v. followed (settled v (cut_of p)) (λ x. give (a_leaf m x))) e ∙ ap (λ t. gives (a_leaf m y) t (lists_of q.reader)) (ap left (sym c)),
+    )
 leaf_did (Err x) m j p q h c = fails_followed x _ (λ x. give (a_leaf m x)) (fails_settled x (with_node m j (under p.reader)) (cut_of p) h)
 
 -- whatever is ahead, a text is the same

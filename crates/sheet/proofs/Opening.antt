@@ -68,10 +68,16 @@ module _ (room : ℕ) (kind : code.Block) (p q : Parser) (k : Went p q) (c : q.c
         go : (y : Opened) → Opens p.reader q.reader (code_open.Arm b guard) y → start ≡ gives y (cut_of q) (lists_of q.reader) →
             (x : tree.Block) × (y : tree.Guard) × (block_of (pool_of q.reader) b ≡ Some x) × (count p < count q) × GuardIn (pool_of q.reader) (nodes_of q) (count p) (count q) guard y × (0 < room)
             × (whole n ≡ followed (taken (arm_of q.end (elements (source_of q) q.end n (room - 1)) y (λ t. rests (source_of q) q.end n (room - 1) kind t)) q) (λ a. give (a_block p.reader.mark x a)))
-        go (with_arm x y) r is =
-            (x, y, r.0, r.1, r.2, has_room room p.reader.mark (opened kind p.reader.mark) _ (cut_of p) (cut_of q) (with_arm x y) (lists_of q.reader) is,
-            block_step n ∙ ap (λ v. followed v (filling n)) is
-            ∙ ap₂ (λ s e. followed (taken (arm_of e (elements s e n (room - 1)) y (λ t. rests s e n (room - 1) kind t)) q) (λ a. give (a_block p.reader.mark x a))) (sym k.pool.source) (sym k.end))
+        go (with_arm x y) r is = (
+          x,
+          y,
+          r.0,
+          r.1,
+          r.2,
+          has_room room p.reader.mark (opened kind p.reader.mark) _ (cut_of p) (cut_of q) (with_arm x y) (lists_of q.reader) is,
+          block_step n ∙ ap (λ v. followed v (filling n)) is
+              ∙ ap₂ (λ s e. followed (taken (arm_of e (elements s e n (room - 1)) y (λ t. rests s e n (room - 1) kind t)) q) (λ a. give (a_block p.reader.mark x a))) (sym k.pool.source) (sym k.end),
+        )
         go (a_case x) r is = absurd r
 
     pub block_arm_refused : (s : Parser) (x : Stop) → ArmRead (room - 1) kind guard q (Err x) s → (n : ℕ) → pieces (cut_of p) < n → Fails x (whole n)
@@ -94,13 +100,14 @@ module _ (room : ℕ) (kind : code.Block) (p q : Parser) (k : Went p q) (c : q.c
         let there = node_there (room - 1) at guard y q s u nd l x before in
         let kept = keeps_block (pool_of q.reader) pool (wider_then (pool_of q.reader) (pool_of s.reader) pool l.pool (wider_same s u at nd x)) b t is in
         let leads = leads_open pool ns room at at end (λ z. z) place b a t arms (omega arith) (omega (arith, last, set_at (room - 1) at guard y q s u nd l x before)) o there kept
-        (subst (λ i. Rattle.nodes.specs.Built.ArmIn pool ns (room - 1) at i a arms) (sym last) here) (leads_none pool ns room at) in
-        (a_block p.reader.mark t arms,
-        subst (λ i. Leads pool ns room i (count u) (λ z. block p.reader.mark t arms z)) e
-        (subst (λ i. Leads pool ns room at i (λ z. block p.reader.mark t arms z)) last
-        (subst (λ i. Leads pool ns room at end (λ z. block i t arms z)) m leads)),
-        v ∙ ap (λ z. followed z (λ z. give (a_block p.reader.mark t z))) w
-        ∙ ap₂ (λ z c. gives (a_block p.reader.mark t arms) z c) (ap left (sym cut)) (sym (lists_same s u at nd x)))
+        (subst (λ i. Rattle.nodes.specs.Built.ArmIn pool ns (room - 1) at i a arms) (sym last) here) (leads_none pool ns room at) in (
+          a_block p.reader.mark t arms,
+          subst (λ i. Leads pool ns room i (count u) (λ z. block p.reader.mark t arms z)) e
+              (subst (λ i. Leads pool ns room at i (λ z. block p.reader.mark t arms z)) last
+              (subst (λ i. Leads pool ns room at end (λ z. block i t arms z)) m leads)),
+          v ∙ ap (λ z. followed z (λ z. give (a_block p.reader.mark t z))) w
+              ∙ ap₂ (λ z c. gives (a_block p.reader.mark t arms) z c) (ap left (sym cut)) (sym (lists_same s u at nd x)),
+        )
 
   -- a `case`
   module _ (target : Expr) (d : Did (Ok (code_open.Case target)) start (Opens p.reader q.reader) q) where
@@ -112,10 +119,14 @@ module _ (room : ℕ) (kind : code.Block) (p q : Parser) (k : Went p q) (c : q.c
             (x : tree_expr.Expr) × (expr_of (pool_of q.reader) target ≡ Some x) × (count q ≡ count p + 1) × (0 < room)
             × (whole n ≡ followed (taken (dropped q.end (elements (source_of q) q.end n (room - 1))) q) (λ t c l. followed (rests (source_of q) q.end n (room - 1) kind t c l) (λ a. give (a_block p.reader.mark (case_block x) a))))
         go (with_arm x y) r is = absurd r
-        go (a_case x) r is =
-            (x, r.0, r.1, has_room room p.reader.mark (opened kind p.reader.mark) _ (cut_of p) (cut_of q) (a_case x) (lists_of q.reader) is,
-            block_step n ∙ ap (λ v. followed v (filling n)) is
-            ∙ ap₂ (λ s e. followed (taken (dropped e (elements s e n (room - 1))) q) (λ t c l. followed (rests s e n (room - 1) kind t c l) (λ a. give (a_block p.reader.mark (case_block x) a)))) (sym k.pool.source) (sym k.end))
+        go (a_case x) r is = (
+          x,
+          r.0,
+          r.1,
+          has_room room p.reader.mark (opened kind p.reader.mark) _ (cut_of p) (cut_of q) (a_case x) (lists_of q.reader) is,
+          block_step n ∙ ap (λ v. followed v (filling n)) is
+              ∙ ap₂ (λ s e. followed (taken (dropped e (elements s e n (room - 1))) q) (λ t c l. followed (rests s e n (room - 1) kind t c l) (λ a. give (a_block p.reader.mark (case_block x) a)))) (sym k.pool.source) (sym k.end),
+        )
 
     pub case_inner_refused : (s : Parser) (x : Stop) → InnerRead (room - 1) q (Err x) s → (n : ℕ) → pieces (cut_of p) < n → Fails x (whole n)
     unfolding dropped
@@ -125,7 +136,7 @@ module _ (room : ℕ) (kind : code.Block) (p q : Parser) (k : Went p q) (c : q.c
 
     -- the elements before the first `when` are dropped
     module _ (s t : Parser) (w : Placed) (at : ℕ) (e : at ≡ count p) (l : Went q s) (m : suc (pieces (cut_of s)) ≤ pieces (cut_of q)) (i : InnerRead (room - 1) q (Ok w) s)
-      (x : Sets s.reader t.reader (take (at + 1) (nodes_of s))) (cut : t.cutter ≡ s.cutter) (f : t.end ≡ s.end) where
+        (x : Sets s.reader t.reader (take (at + 1) (nodes_of s))) (cut : t.cutter ≡ s.cutter) (f : t.end ≡ s.end) where
       drop_count : count t ≡ at + 1
       drop_count = ap length x.nodes ∙ length-take (at + 1) (nodes_of s) ∙ go
         where
@@ -145,12 +156,15 @@ module _ (room : ℕ) (kind : code.Block) (p q : Parser) (k : Went p q) (c : q.c
           let source : source_of t ≡ source_of q = ap (λ u. u.source) x.pool ∙ l.pool.source in
           let long : count q ≡ length (take (at + 1) (nodes_of s)) = omega (arith, o, e, drop_count, ap length x.nodes) in
           let tag : z.ending ≡ tag_in t w = b.1 ∙ ap₂ (λ a c. Rattle.sheet.specs.Blocks.tag a (Rattle.arguments.specs.Judging.seen w.place w.bytes.now) (ahead c)) (sym x.mark) (sym x.cursor) in
-          let after = λ (u : Tag) (a : Cut) (c : Lists). followed (rests (source_of q) q.end n (room - 1) kind u a c) (λ a. give (a_block p.reader.mark (case_block y) a)) in
-          (y, is, r,
-          v ∙ ap (λ u. followed (followed u (λ b c' l'. gives b.ending c' (noted (count q) l'))) after) g
-          ∙ ap (λ u. after u (cut_of s) (noted (count q) (lists_of s.reader))) tag
-          ∙ ap₂ (λ a c. after (tag_in t w) a c) (ap left (sym cut)) (ap (λ u. noted u (lists_of s.reader)) long ∙ sym (lists_set s.reader t.reader (take (at + 1) (nodes_of s)) x))
-          ∙ ap₂ (λ a c. followed (taken (rests a c n (room - 1) kind (tag_in t w)) t) (λ a. give (a_block p.reader.mark (case_block y) a))) (sym source) (sym (f ∙ l.end)))
+          let after = λ (u : Tag) (a : Cut) (c : Lists). followed (rests (source_of q) q.end n (room - 1) kind u a c) (λ a. give (a_block p.reader.mark (case_block y) a)) in (
+            y,
+            is,
+            r,
+            v ∙ ap (λ u. followed (followed u (λ b c' l'. gives b.ending c' (noted (count q) l'))) after) g
+                ∙ ap (λ u. after u (cut_of s) (noted (count q) (lists_of s.reader))) tag
+                ∙ ap₂ (λ a c. after (tag_in t w) a c) (ap left (sym cut)) (ap (λ u. noted u (lists_of s.reader)) long ∙ sym (lists_set s.reader t.reader (take (at + 1) (nodes_of s)) x))
+                ∙ ap₂ (λ a c. followed (taken (rests a c n (room - 1) kind (tag_in t w)) t) (λ a. give (a_block p.reader.mark (case_block y) a))) (sym source) (sym (f ∙ l.end)),
+          )
 
       fuel_left : (n : ℕ) → pieces (cut_of p) < n → suc (pieces (cut_of t)) < n
       fuel_left n h = omega (arith, h, k.pieces, m, ap (λ c. pieces (left c)) cut)
@@ -177,10 +191,11 @@ module _ (room : ℕ) (kind : code.Block) (p q : Parser) (k : Went p q) (c : q.c
           let kept = keeps_expr (pool_of q.reader) pool wide target z is in
           let armed = Rattle.nodes.proofs.Builds.arms_wider (pool_of u.reader) (nodes_of u) pool ns nx (room - 1) (at + 1) end arms (wider_same u v at nd y) (Rattle.sheet.proofs.Setting.agree_set u v at nd y (at + 1) end (omega arith))
           (subst (λ c. ArmsIn (pool_of u.reader) (nodes_of u) nx (room - 1) (at + 1) c arms) (sym g) (subst (λ c. ArmsIn (pool_of u.reader) (nodes_of u) nx (room - 1) c (count u) arms) drop_count made)) in
-          let leads = leads_case pool ns room at at end (λ c. c) place target nx z arms (omega arith) (omega (arith, inside, g)) o there kept armed (leads_none pool ns room at) in
-          (a_block p.reader.mark (case_block z) arms,
-          subst (λ i. Leads pool ns room i (count v) (λ c. block p.reader.mark (case_block z) arms c)) e
-          (subst (λ i. Leads pool ns room at i (λ c. block p.reader.mark (case_block z) arms c)) last
-          (subst (λ i. Leads pool ns room at end (λ c. block i (case_block z) arms c)) j leads)),
-          a ∙ ap (λ c. followed c (λ c. give (a_block p.reader.mark (case_block z) c))) b
-          ∙ ap₂ (λ c d. gives (a_block p.reader.mark (case_block z) arms) c d) (ap left (sym cv)) (sym (lists_same u v at nd y)))
+          let leads = leads_case pool ns room at at end (λ c. c) place target nx z arms (omega arith) (omega (arith, inside, g)) o there kept armed (leads_none pool ns room at) in (
+            a_block p.reader.mark (case_block z) arms,
+            subst (λ i. Leads pool ns room i (count v) (λ c. block p.reader.mark (case_block z) arms c)) e
+                (subst (λ i. Leads pool ns room at i (λ c. block p.reader.mark (case_block z) arms c)) last
+                (subst (λ i. Leads pool ns room at end (λ c. block i (case_block z) arms c)) j leads)),
+            a ∙ ap (λ c. followed c (λ c. give (a_block p.reader.mark (case_block z) c))) b
+                ∙ ap₂ (λ c d. gives (a_block p.reader.mark (case_block z) arms) c d) (ap left (sym cv)) (sym (lists_same u v at nd y)),
+          )

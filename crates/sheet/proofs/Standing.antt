@@ -39,9 +39,10 @@ pieced source end at a b c e h =
     let under : k + m ≤ end = omega (arith, whole, short, length-drop at t, h) in
     let rest : drop k t ≡ b ++ c = sym (drop-drop (length a) at t) ∙ ap (drop (length a)) e ∙ drop_at a (b ++ c) (length a) refl in
     let far : drop k t ≡ take (end - k) (drop k source) = ap (λ n. drop k (take n source)) (let q : end ≡ k + (end - k) = omega (arith, under) in q) ∙ drop-take k (end - k) source in
-    let there : b ≡ take m (drop k source) = sym (take_at b c m refl) ∙ ap (take m) (sym rest ∙ far) ∙ take-take m (end - k) (drop k source) (omega (arith, under)) in
-    (and_from (leb (k + m) (length source)) (bytes_eq b (take m (drop k source))) (le-leb (k + m) (length source) fits) ((bytes_eq-Decides b (take m (drop k source))).1 there),
-    ap (λ n. drop n t) (let q : at + (length a + m) ≡ k + m = omega arith in q) ∙ sym (drop-drop m k t) ∙ ap (drop m) rest ∙ drop_at b c m refl)
+    let there : b ≡ take m (drop k source) = sym (take_at b c m refl) ∙ ap (take m) (sym rest ∙ far) ∙ take-take m (end - k) (drop k source) (omega (arith, under)) in (
+      and_from (leb (k + m) (length source)) (bytes_eq b (take m (drop k source))) (le-leb (k + m) (length source) fits) ((bytes_eq-Decides b (take m (drop k source))).1 there),
+      ap (λ n. drop n t) (let q : at + (length a + m) ≡ k + m = omega arith in q) ∙ sym (drop-drop m k t) ∙ ap (drop m) rest ∙ drop_at b c m refl,
+    )
 
 two_open : (k : Kind) → length (opening k) ≡ 2
 two_open Tag = refl

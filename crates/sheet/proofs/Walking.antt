@@ -173,10 +173,11 @@ module _ (room : ℕ) (piece : Piece) (p q s t : Parser) (w : Walking room p q) 
       met l m fuel (a_leaf at x) d g = absurd d
       met l m fuel (a_block at x a) d g = absurd d
       met l m fuel (other u) d g =
-          let long : count t ≡ count q = ap length d.1 ∙ same_count in
-          (elements_are (l.put done) (Some u),
-          (subst (λ j. Body (pool_of t.reader) (nodes_of t) room (count p) j (l.put done)) (sym long) (body_done (pool_of t.reader) (nodes_of t) room (count p) (count q) l.put (front_length _ _ w.went.nodes) (grown k l.put l.leads)), ap Some d.0),
-          l.is ∙ ap (λ i. prefixed l.put (taken (elements (source_of p) p.end i room) q)) fuel ∙ ap (prefixed l.put) (behind_is m (other u) g))
+          let long : count t ≡ count q = ap length d.1 ∙ same_count in (
+            elements_are (l.put done) (Some u),
+            (subst (λ j. Body (pool_of t.reader) (nodes_of t) room (count p) j (l.put done)) (sym long) (body_done (pool_of t.reader) (nodes_of t) room (count p) (count q) l.put (front_length _ _ w.went.nodes) (grown k l.put l.leads)), ap Some d.0),
+            l.is ∙ ap (λ i. prefixed l.put (taken (elements (source_of p) p.end i room) q)) fuel ∙ ap (prefixed l.put) (behind_is m (other u) g),
+          )
 
   -- an element is refused
   pub walking_refused : (x : Stop) → ElementRead room piece s (Err x) t → ElementsRead room p (Err x) t
@@ -199,11 +200,12 @@ module _ (room : ℕ) (p q s : Parser) (w : Walking room p q) where
   walking_over h r n b =
       let l = w.left n b in
       let long : count s ≡ count q = ap (λ x. length (vec_items x.nodes)) r in
-      let body = body_done (pool_of q.reader) (nodes_of q) room (count p) (count q) l.put (front_length _ _ w.went.nodes) l.leads in
-      (elements_are (l.put done) None,
-      (subst (λ x. Body (pool_of x) (vec_items x.nodes) room (count p) (length (vec_items x.nodes)) (l.put done)) (sym r) body, refl),
-      l.is ∙ ap (prefixed l.put) (none_left (source_of p) p.end l.fuel h.0 (omega (arith, l.enough)))
-      ∙ ap (λ c. gives (elements_are (l.put done) None) c (lists_of q.reader)) (sym h.1) ∙ ap (λ x. gives (elements_are (l.put done) None) (cut_of s) (lists_of x)) (sym r))
+      let body = body_done (pool_of q.reader) (nodes_of q) room (count p) (count q) l.put (front_length _ _ w.went.nodes) l.leads in (
+        elements_are (l.put done) None,
+        (subst (λ x. Body (pool_of x) (vec_items x.nodes) room (count p) (length (vec_items x.nodes)) (l.put done)) (sym r) body, refl),
+        l.is ∙ ap (prefixed l.put) (none_left (source_of p) p.end l.fuel h.0 (omega (arith, l.enough)))
+            ∙ ap (λ c. gives (elements_are (l.put done) None) c (lists_of q.reader)) (sym h.1) ∙ ap (λ x. gives (elements_are (l.put done) None) (cut_of s) (lists_of x)) (sym r),
+      )
 
   not_closed : (source : List ℕ) (end m place : ℕ) → cut_of q ≡ unclosed place → 0 < m → taken (elements source end m room) q ≡ fails 3 place
   not_closed source end zero place c b = absurd (omega (arith, b))

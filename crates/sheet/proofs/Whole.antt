@@ -65,11 +65,12 @@ module _ (known : List ℕ → Bool) (p t q : Parser) (from to : ℕ) (r : t.rea
       (y : Tree) × Body (pool_of q.reader) (nodes_of q) 16 (count p) (count q) y × (read_part known (source_of p) from to (lists_of p.reader) ≡ all_known y (lists_of q.reader) u)
   part_over d asked a u f =
       let (y, (body, ending), g) = d (suc (pieces (cut_of t))) (omega arith) in
-      let n : length (lists_of p.reader).asked ≡ asked = length-map (vec_items p.reader.filters) (asked_in p.reader.source.now) ∙ sym a in
-      (y.tree,
-      subst (λ i. Body (pool_of q.reader) (nodes_of q) 16 i (count q) y.tree) (ap (λ x. length (vec_items x.nodes)) r) body,
-      read_is _ g ∙ ap (λ o. ended known (length (lists_of p.reader).asked) y.tree o (lists_of q.reader)) ending
-      ∙ ap (all_known y.tree (lists_of q.reader)) (ap (λ i. first_unknown known (drop i (lists_of q.reader).asked)) n ∙ ap (first_unknown known) (map_drop (asked_in q.reader.source.now) asked (vec_items q.reader.filters)) ∙ sym f))
+      let n : length (lists_of p.reader).asked ≡ asked = length-map (vec_items p.reader.filters) (asked_in p.reader.source.now) ∙ sym a in (
+        y.tree,
+        subst (λ i. Body (pool_of q.reader) (nodes_of q) 16 i (count q) y.tree) (ap (λ x. length (vec_items x.nodes)) r) body,
+        read_is _ g ∙ ap (λ o. ended known (length (lists_of p.reader).asked) y.tree o (lists_of q.reader)) ending
+            ∙ ap (all_known y.tree (lists_of q.reader)) (ap (λ i. first_unknown known (drop i (lists_of q.reader).asked)) n ∙ ap (first_unknown known) (map_drop (asked_in q.reader.source.now) asked (vec_items q.reader.filters)) ∙ sym f),
+      )
 
 -- the order of judging
 module _ (known : List ℕ → Bool) (source : List ℕ) (templates place len : ℕ) (l : Lists) where
@@ -134,7 +135,7 @@ some_there None h = cc
 some_there (Some x) h = (x, refl)
 
 module _ (s : Sheet) (q : Parser) (ts : List Template) (known : List ℕ → Bool) (place len : ℕ) (g : Grew s.parser q) (e : ts ≡ templates_of s ++ (record { from = count s.parser; end = count q } ∷ []))
-  (d : PartRead known place (place + len) s.parser (Ok (tt {0})) q) where
+    (d : PartRead known place (place + len) s.parser (Ok (tt {0})) q) where
   tree_there : (y : Tree) × (tree_at (pool_of q.reader) (nodes_of q) (count s.parser) (count q) ≡ Some y) × (read_part known (source_in s) place (place + len) (lists s) ≡ loaded y (lists_of q.reader))
   tree_there = let (y, b, r) = d in (y, tree_of_body (pool_of q.reader) (nodes_of q) (count s.parser) (count q) y (front_length _ _ g.nodes) (omega arith) b, r)
 
@@ -151,11 +152,15 @@ module _ (s : Sheet) (q : Parser) (ts : List Template) (known : List ℕ → Boo
 
   pub loads_one : (k : ℕ) (t : Sheet) → k ≡ length (templates_of s) → t.parser ≡ q → templates_of t ≡ ts → place + len ≤ length (source_in s) → length (templates_of s) < 32 → len ≤ 16384 → Loads known place len s (Ok k) t
   loads_one k t i pq tq h m n =
-      let (y, z, r) = tree_there in
-      (y, lists_of q.reader, load_reads known (source_in s) (length (templates_of s)) place len (lists s) h m n ∙ r, i,
-      record {
-        source = ap (λ x. x.reader.source.now) pq ∙ g.pool.source;
-        lists = ap (λ x. lists_of x.reader) pq;
-        count = ap length tq ∙ ap length e ∙ length-append (templates_of s) (record { from = count s.parser; end = count q } ∷ []);
-        trees = λ ys f. ap₂ (λ a b. trees_in (pool_of a.reader) (vec_items a.reader.nodes) b) pq tq ∙ trees_then y z ys f;
-      })
+      let (y, z, r) = tree_there in (
+        y,
+        lists_of q.reader,
+        load_reads known (source_in s) (length (templates_of s)) place len (lists s) h m n ∙ r,
+        i,
+        record {
+          source = ap (λ x. x.reader.source.now) pq ∙ g.pool.source;
+          lists = ap (λ x. lists_of x.reader) pq;
+          count = ap length tq ∙ ap length e ∙ length-append (templates_of s) (record { from = count s.parser; end = count q } ∷ []);
+          trees = λ ys f. ap₂ (λ a b. trees_in (pool_of a.reader) (vec_items a.reader.nodes) b) pq tq ∙ trees_then y z ys f;
+        },
+      )

@@ -120,7 +120,12 @@ fn only_end(reader: &mut Reader<'_>, tag: Word, closer: Closer) -> Result<Follow
 }
 
 // What a tag behind elements of a block is to it.
-fn follow_as(reader: &mut Reader<'_>, kind: Block, tag: Word, closer: Closer) -> Result<Following, Stop>
+fn follow_as(
+    reader: &mut Reader<'_>,
+    kind: Block,
+    tag: Word,
+    closer: Closer,
+) -> Result<Following, Stop>
     ensures says { Said result (following kind (tag_of reader.old tag.entry) closer (under reader.old)) (Follows reader.old reader.new) (under reader.new) }
     ensures longer { Longer reader.old reader.new }
 {

@@ -11,7 +11,7 @@ mod parser;
 mod parts;
 mod pieces;
 mod reading;
-mod stdlib;
 pub mod sheet;
+mod stdlib;
 mod table;
 pub mod templates;

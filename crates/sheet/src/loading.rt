@@ -96,12 +96,7 @@ impl<'a> Sheet<'a> {
     }
 
     /// Loads the part of `len` bytes at `place` as a template, and tells its number. A part that is refused leaves the sheet as it was.
-    pub fn load<B: Bank>(
-        &mut self,
-        place: usize,
-        len: usize,
-        bank: &mut B,
-    ) -> Result<usize, Stop>
+    pub fn load<B: Bank>(&mut self, place: usize, len: usize, bank: &mut B) -> Result<usize, Stop>
         ensures says { Loads (B.Bank.meaning bank.old).known place len self.old result self.new }
         ensures same { B.Bank.meaning bank.new ≡ B.Bank.meaning bank.old }
     {

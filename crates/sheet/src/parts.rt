@@ -46,12 +46,7 @@ impl<'a> Parser<'a> {
     }
 
     // Reads the part from one place up to another.
-    pub(crate) fn part<B: Bank>(
-        &mut self,
-        from: usize,
-        to: usize,
-        bank: &mut B,
-    ) -> Result<(), Stop>
+    pub(crate) fn part<B: Bank>(&mut self, from: usize, to: usize, bank: &mut B) -> Result<(), Stop>
         requires inside { to ≤ length (source_of self.old) }
         ensures says { PartRead (B.Bank.meaning bank.old).known from to self.old result self.new }
         ensures grew { Grew self.old self.new }

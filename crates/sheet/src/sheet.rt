@@ -6,8 +6,6 @@ ghost use Rattle.sheet.specs.Templates.{trees_in};
 use crate::parser::Parser;
 use crate::templates::Template;
 
-
-
 /// The tables that its templates are read into, and the nodes of each template. Every template decodes into a tree.
 #[derive(Debug, PartialEq, Eq, Drop)]
 pub struct Sheet<'a> {

@@ -10,6 +10,10 @@ pub(crate) enum Fault {
     UnknownWord,
     #[error("a filter name is wanted here")]
     NoFilter,
+    #[error("a template name is wanted here")]
+    NoTemplate,
+    #[error("a text in quotes or @ and a file name is wanted here")]
+    NoTemplateText,
     #[error("a file name is wanted here")]
     NoFileName,
     #[error("a file name is not UTF-8")]

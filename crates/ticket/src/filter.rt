@@ -3,18 +3,19 @@
 ghost use Rattle.ticket.specs.Bounds.{FitsAnswer};
 
 use crate::job::{Filtering, TrayParts};
-use crate::json::tree::{Json, Kind};
+use crate::json::document::{Json, Kind};
 use crate::quote::push_quoted;
 use banks::answers::Answer;
 use banks::bank::Bank;
 use banks::causes::Cause;
-use banks::joined::join;
+use banks::joined::{Joined, join};
 use banks::operands::{Operand, Short};
 use banks::phrases::Phrases;
 use banks::sums::Sums;
 use std::alloc::{AllocError, Global};
 use std::io;
 use std::io::Write;
+use tray::records::OpenError;
 
 // Applies the filter, with the phrases of a tray, and prints its answer.
 pub(crate) fn apply(
@@ -22,12 +23,20 @@ pub(crate) fn apply(
     phrases: TrayParts<'_>,
     filtering: &Filtering,
 ) -> io::Result<()> {
-    let Ok(tray) = phrases.open(rt.alloc()) else {
+    let Ok(mut bank) = bank_of(rt.alloc(), phrases) else {
         return println!(rt; "filter failed: no memory");
     };
-    let mut bank = join(Sums {}, Phrases::new(tray));
     let line = answer_line(rt.alloc(), &mut bank, filtering)?;
     rt.stdout().write_all(line.as_slice())
+}
+
+// The two banks, with the phrases of a tray.
+pub(crate) fn bank_of(
+    heap: Global,
+    phrases: TrayParts<'_>,
+) -> Result<Joined<Sums, Phrases<'_>>, OpenError> {
+    let tray = phrases.open(heap)?;
+    Ok(join(Sums {}, Phrases::new(tray)))
 }
 
 // The operand of a JSON value, where a filter takes such a value; any other is wrong without a call.

@@ -1,12 +1,15 @@
 //! A job: one action a line. Blank lines and lines that begin with `#` are comments.
 
+ghost use Rattle.std.specs.Prelude.{◌≡◌, ◌++◌, IfOk, OnOk};
+ghost use Rattle.tray.specs.Parts.{cut};
+
 use crate::cursor::Cursor;
 use crate::faults::{Fault, JobError, Place};
 use crate::json;
-use crate::json::tree::Json;
+use crate::json::document::{Json, Part};
 use crate::layout::{LayoutError, Unsaid, lay_out};
 use crate::spelling::spell_all;
-use std::alloc::Global;
+use std::alloc::{AllocError, Global};
 use std::fs;
 use tray::records::OpenError;
 use tray::trays::Tray;
@@ -52,6 +55,8 @@ pub(crate) enum Action {
     Phrases(TrayBytes),
     // `filter NAME JSON [JSON]`
     Filter(Filtering),
+    // `template NAME JSON-TEXT` or `template NAME @FILE`
+    Template(Template),
 }
 
 // A filter by name, its input and perhaps its argument.
@@ -62,22 +67,54 @@ pub(crate) struct Filtering {
     pub(crate) argument: Option<Json>,
 }
 
-// Reads the actions of `job` into `actions`, up to the first line that is none.
-pub(crate) fn read_job(
-    rt: &HostRuntime,
-    job: &[u8],
-    actions: &mut Vec<Action>,
-) -> Result<(), JobError> {
-    for (number, line) in job.split(|b| *b == b'\n').enumerate() {
-        if let Some(action) = read_line(rt, Cursor::new(number, line))? {
-            actions.push(action)?;
+// A template by name: a part of the source of its job.
+#[derive(Drop)]
+pub(crate) struct Template {
+    pub(crate) name: Vec<u8>,
+    pub(crate) part: Part,
+}
+
+// The actions of a job, and the source: the templates of all of them, one behind the other.
+#[derive(Drop)]
+pub(crate) struct Job {
+    pub(crate) actions: Vec<Action>,
+    pub(crate) source: Vec<u8>,
+}
+
+impl Job {
+    pub(crate) fn new(heap: Global) -> Job {
+        Job {
+            actions: Vec::new(heap),
+            source: Vec::new(heap),
         }
     }
-    Ok(())
+
+    // Reads the actions of `text`, up to the first line that is none.
+    pub(crate) fn read(&mut self, rt: &HostRuntime, text: &[u8]) -> Result<(), JobError> {
+        for (number, line) in text.split(|b| *b == b'\n').enumerate() {
+            let cursor = Cursor::new(number, line);
+            if let Some(action) = read_line(rt, cursor, &mut self.source)? {
+                self.actions.push(action)?;
+            }
+        }
+        Ok(())
+    }
+
+    // One more action, `template NAME` with these bytes.
+    pub(crate) fn add(&mut self, name: Vec<u8>, bytes: &[u8]) -> Result<(), AllocError> {
+        let part = join_source(&mut self.source, bytes)?;
+        self.actions
+            .push(Action::Template(Template { name, part }))?;
+        Ok(())
+    }
 }
 
 // The action of a line; a comment has none.
-fn read_line(rt: &HostRuntime, mut cursor: Cursor<'_>) -> Result<Option<Action>, JobError> {
+fn read_line(
+    rt: &HostRuntime,
+    mut cursor: Cursor<'_>,
+    source: &mut Vec<u8>,
+) -> Result<Option<Action>, JobError> {
     cursor.skip_blanks();
     if let None | Some(b'#') = cursor.peek() {
         return Ok(None);
@@ -93,6 +130,7 @@ fn read_line(rt: &HostRuntime, mut cursor: Cursor<'_>) -> Result<Option<Action>,
         }
         b"phrases" => read_object(rt.alloc(), cursor, Action::Phrases)?,
         b"filter" => read_filter(rt.alloc(), cursor)?,
+        b"template" => Action::Template(read_template(rt, cursor, source)?),
         _ => return Err(at.bad(Fault::UnknownWord)),
     };
     Ok(Some(action))
@@ -147,6 +185,48 @@ fn read_argument(heap: Global, cursor: &mut Cursor<'_>) -> Result<Option<Json>, 
         None => Ok(None),
         Some(_) => Ok(Some(json::read_value(heap, cursor)?)),
     }
+}
+
+fn read_template(
+    rt: &HostRuntime,
+    mut cursor: Cursor<'_>,
+    source: &mut Vec<u8>,
+) -> Result<Template, JobError> {
+    let (_, word) = next_word(&mut cursor, Fault::NoTemplate)?;
+    let name = Vec::from_slice(rt.alloc(), word)?;
+    let part = read_part(rt, &mut cursor, source)?;
+    cursor.end()?;
+    Ok(Template { name, part })
+}
+
+// The text ahead, or that of the file ahead; it joins the source.
+fn read_part(
+    rt: &HostRuntime,
+    cursor: &mut Cursor<'_>,
+    source: &mut Vec<u8>,
+) -> Result<Part, JobError> {
+    cursor.skip_blanks();
+    if cursor.take_if(b'@') {
+        let bytes = read_file(rt, cursor)?;
+        return Ok(join_source(source, bytes.as_slice())?);
+    }
+    if !cursor.take_if(b'"') {
+        return Err(cursor.at().bad(Fault::NoTemplateText));
+    }
+    cursor.text(source)
+}
+
+// The part that these bytes become at the end of the source.
+fn join_source(source: &mut Vec<u8>, bytes: &[u8]) -> Result<Part, AllocError>
+    ensures source { OnOk result (source.new.items ≡ source.old.items ++ bytes.now) }
+    ensures part { IfOk result (λ p. cut source.new.items p.place p.len ≡ bytes.now) }
+{
+    let place = source.len();
+    source.extend_from_slice(bytes)?;
+    Ok(Part {
+        place,
+        len: bytes.len(),
+    })
 }
 
 fn read_tray(rt: &HostRuntime, mut cursor: Cursor<'_>) -> Result<Action, JobError> {

@@ -3,11 +3,11 @@
 
 use crate::cursor::Cursor;
 use crate::faults::{Fault, JobError};
-use crate::json::tree::{Json, Tree, Want};
+use crate::json::document::{Json, Tree, Want};
 use std::alloc::Global;
 
+pub(crate) mod document;
 pub(crate) mod tokens;
-pub(crate) mod tree;
 
 // The object ahead, with nothing but blanks around it.
 pub(crate) fn read(heap: Global, mut cursor: Cursor<'_>) -> Result<Json, JobError> {

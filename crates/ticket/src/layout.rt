@@ -2,7 +2,7 @@
 
 ghost use Rattle.std.specs.Prelude.{◌≤◌};
 
-use crate::json::tree::{Json, Kind, Node};
+use crate::json::document::{Json, Kind, Node};
 use std::alloc::{AllocError, Global};
 use thiserror::Error;
 use tray::records::{Record, Span};

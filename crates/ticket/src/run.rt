@@ -1,15 +1,20 @@
 //! The actions of a job, done one after another.
 
 use crate::filter::apply;
-use crate::job::{Action, TrayParts};
+use crate::job::{Action, Job, TrayParts};
+use crate::load::load;
 use crate::show::show;
+use sheet::sheet::Sheet;
 use std::io;
 use tray::trays::Tray;
 
-pub(crate) fn run(rt: &HostRuntime, actions: &[Action]) -> io::Result<()> {
+// Does them, and tells whether all templates were loaded.
+pub(crate) fn run(rt: &HostRuntime, job: &Job) -> io::Result<bool> {
     let mut tray: Option<Tray> = None;
     let mut phrases = NO_NAMES;
-    for action in actions {
+    let mut sheet = Sheet::new(rt.alloc(), job.source.as_slice());
+    let mut all_loaded = true;
+    for action in &job.actions {
         match action {
             Action::Open(bytes) => {
                 if let Some(opened) = open(rt, "open", bytes.parts())? {
@@ -27,9 +32,13 @@ pub(crate) fn run(rt: &HostRuntime, actions: &[Action]) -> io::Result<()> {
                 }
             }
             Action::Filter(filtering) => apply(rt, phrases, filtering)?,
+            Action::Template(template) => {
+                let source = job.source.as_slice();
+                all_loaded &= load(rt, &mut sheet, phrases, source, template)?;
+            }
         }
     }
-    Ok(())
+    Ok(all_loaded)
 }
 
 // A tray without names.

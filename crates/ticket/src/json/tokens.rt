@@ -4,7 +4,7 @@ ghost use Rattle.std.specs.Prelude.{◌≡◌, ◌+◌, ◌<◌, ◌≤◌, leng
 
 use crate::cursor::Cursor;
 use crate::faults::{Fault, JobError, Place};
-use crate::json::tree::{Holder, Kind, Part, Token};
+use crate::json::document::{Holder, Kind, Part, Token};
 use numerals::read_whole;
 
 impl<'a> Cursor<'a> {
@@ -23,7 +23,7 @@ impl<'a> Cursor<'a> {
             Some(b'}') => Ok(Token::Close(Holder::Object)),
             Some(b',') => Ok(Token::Comma),
             Some(b':') => Ok(Token::Colon),
-            Some(b'"') => Ok(Token::Leaf(self.text(texts)?)),
+            Some(b'"') => Ok(Token::Leaf(Kind::Text(self.text(texts)?))),
             Some(b'n') => self.constant(at, b"ull", Kind::Nil),
             Some(b't') => self.constant(at, b"rue", Kind::Flag(true)),
             Some(b'f') => self.constant(at, b"alse", Kind::Flag(false)),
@@ -65,7 +65,7 @@ impl<'a> Cursor<'a> {
     }
 
     // The text behind an opening quote.
-    fn text(&mut self, texts: &mut Vec<u8>) -> Result<Kind, JobError>
+    pub(crate) fn text(&mut self, texts: &mut Vec<u8>) -> Result<Part, JobError>
         ensures { OnOk result (length self.new.rest.now ≤ length self.old.rest.now) }
     {
         let place = texts.len();
@@ -79,10 +79,10 @@ impl<'a> Cursor<'a> {
                 Some(b) => texts.push(b)?,
             }
         }
-        Ok(Kind::Text(Part {
+        Ok(Part {
             place,
             len: texts.len() - place,
-        }))
+        })
     }
 
     // What stands behind a backslash at the place `at`.

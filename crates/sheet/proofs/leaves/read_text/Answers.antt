@@ -17,7 +17,8 @@ returns-clause-says c =
     let p = c.args.text.place in
     let b = c.args.text.bytes.now in
     let (u, s, room) = c.in_ok-room.ensures in
-    let (v, t, more) = c.in_ok-push_node.ensures.says in
-    (plain b,
-    record { leaf = Plain (record { place = p; len = Rattle.std.proofs.Common.length b }); nodes = c.in_ok-push_node.ensures.pushed; is = ap (λ o. option_map plain (Rattle.nodes.specs.Exprs.bytes_of o (record { place = p; len = Rattle.std.proofs.Common.length b }))) (ap (λ z. z.source) c.push_node.ensures.pool) ∙ ap (option_map plain) (part_bytes d.source.now p b c.requires.lies) },
-    leaf_said p (pure (plain b)) (under d) (plain b) (under d) (under e) room refl more)
+    let (v, t, more) = c.in_ok-push_node.ensures.says in (
+      plain b,
+      record { leaf = Plain (record { place = p; len = Rattle.std.proofs.Common.length b }); nodes = c.in_ok-push_node.ensures.pushed; is = ap (λ o. option_map plain (Rattle.nodes.specs.Exprs.bytes_of o (record { place = p; len = Rattle.std.proofs.Common.length b }))) (ap (λ z. z.source) c.push_node.ensures.pool) ∙ ap (option_map plain) (part_bytes d.source.now p b c.requires.lies) },
+      leaf_said p (pure (plain b)) (under d) (plain b) (under d) (under e) room refl more,
+    )

@@ -33,7 +33,11 @@ fn when(reader: &mut Reader<'_>) -> Result<Following, Stop>
 }
 
 #[tactic(auto, using(arguments::proofs::Chaining::said_went, arguments::proofs::Chaining::refuses_went, arguments::proofs::Chaining::longer_then, arguments::proofs::Chaining::grown_longer, crate::proofs::Guards::when_arm), unfolding(crate::specs::Blocks::in_case))]
-pub(crate) fn after_case(reader: &mut Reader<'_>, tag: Word, closer: Closer) -> Result<Following, Stop>
+pub(crate) fn after_case(
+    reader: &mut Reader<'_>,
+    tag: Word,
+    closer: Closer,
+) -> Result<Following, Stop>
     ensures says { Said result (in_case (tag_of reader.old tag.entry) closer (under reader.old)) (Follows reader.old reader.new) (under reader.new) }
     ensures longer { Longer reader.old reader.new }
 {

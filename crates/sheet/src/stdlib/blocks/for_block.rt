@@ -30,7 +30,11 @@ pub(crate) fn open_tablerow(reader: &mut Reader<'_>) -> Result<Opened, Stop>
 }
 
 #[tactic(auto, using(arguments::proofs::Chaining::said_went, arguments::proofs::Chaining::refuses_went, arguments::proofs::Chaining::longer_then, arguments::proofs::Chaining::grown_longer, crate::proofs::Guards::itemed), unfolding(crate::specs::Blocks::in_for))]
-pub(crate) fn after_for(reader: &mut Reader<'_>, tag: Word, closer: Closer) -> Result<Following, Stop>
+pub(crate) fn after_for(
+    reader: &mut Reader<'_>,
+    tag: Word,
+    closer: Closer,
+) -> Result<Following, Stop>
     ensures says { Said result (in_for (tag_of reader.old tag.entry) closer (under reader.old)) (Follows reader.old reader.new) (under reader.new) }
     ensures longer { Longer reader.old reader.new }
 {

@@ -41,7 +41,11 @@ fn elsif(reader: &mut Reader<'_>) -> Result<Following, Stop>
 }
 
 #[tactic(auto, using(arguments::proofs::Chaining::said_went, arguments::proofs::Chaining::refuses_went, arguments::proofs::Chaining::longer_then, arguments::proofs::Chaining::grown_longer, crate::proofs::Guards::elsif_arm), unfolding(crate::specs::Blocks::in_if))]
-pub(crate) fn after_if(reader: &mut Reader<'_>, tag: Word, closer: Closer) -> Result<Following, Stop>
+pub(crate) fn after_if(
+    reader: &mut Reader<'_>,
+    tag: Word,
+    closer: Closer,
+) -> Result<Following, Stop>
     ensures says { Said result (in_if (tag_of reader.old tag.entry) closer (under reader.old)) (Follows reader.old reader.new) (under reader.new) }
     ensures longer { Longer reader.old reader.new }
 {

@@ -8,24 +8,26 @@ use Rattle.sheet.proofs.sheet.Sheet.load.Goals.{then-place-whole-via-then-place-
 pub returns-then-place-whole-clause-says : goal.returns-then-place-whole-clause-says
 returns-then-place-whole-clause-says g c =
     let known = (g.B.Bank.meaning c.args.bank.now).known in
-    let s = c.args.self.now in
-    (load_outside known (source_in s) (length (templates_of s)) c.args.place c.args.len (lists s)
-    (elim c.then-place-whole.branch [
-      | then-place-whole-via-then-place-whole w ↦ omega (arith, w.if-place-whole.true)
-      | then-place-whole-via-else-place-whole+then-len-whole w ↦ omega (arith, w.if-place-whole.false, w.if-len-whole.true)
-    ]),
-    untouched_same s)
+    let s = c.args.self.now in (
+      load_outside known (source_in s) (length (templates_of s)) c.args.place c.args.len (lists s)
+          (elim c.then-place-whole.branch [
+            | then-place-whole-via-then-place-whole w ↦ omega (arith, w.if-place-whole.true)
+            | then-place-whole-via-else-place-whole+then-len-whole w ↦ omega (arith, w.if-place-whole.false, w.if-len-whole.true)
+          ]),
+      untouched_same s,
+    )
 
 pub returns-then-template-ge-TEMPLATES-clause-says : goal.returns-then-template-ge-TEMPLATES-clause-says
 returns-then-template-ge-TEMPLATES-clause-says g c =
     let known = (g.B.Bank.meaning c.args.bank.now).known in
     let s = c.args.self.now in
-    let fits : c.args.place + c.args.len ≤ length (source_in s) = omega (arith, c.if-place-whole.false, c.if-len-whole.false) in
-    (elim c.then-template-ge-TEMPLATES.branch [
-      | then-template-ge-TEMPLATES-via-then-template-ge-TEMPLATES w ↦ load_many known (source_in s) (length (templates_of s)) c.args.place c.args.len (lists s) fits (omega (arith, w.if-template-ge-TEMPLATES.true, c.template_count-template.ensures))
-      | then-template-ge-TEMPLATES-via-else-template-ge-TEMPLATES+then-len-gt-LONGEST w ↦ load_long known (source_in s) (length (templates_of s)) c.args.place c.args.len (lists s) fits (omega (arith, w.if-len-gt-LONGEST.true))
-    ],
-    untouched_same s)
+    let fits : c.args.place + c.args.len ≤ length (source_in s) = omega (arith, c.if-place-whole.false, c.if-len-whole.false) in (
+      elim c.then-template-ge-TEMPLATES.branch [
+        | then-template-ge-TEMPLATES-via-then-template-ge-TEMPLATES w ↦ load_many known (source_in s) (length (templates_of s)) c.args.place c.args.len (lists s) fits (omega (arith, w.if-template-ge-TEMPLATES.true, c.template_count-template.ensures))
+        | then-template-ge-TEMPLATES-via-else-template-ge-TEMPLATES+then-len-gt-LONGEST w ↦ load_long known (source_in s) (length (templates_of s)) c.args.place c.args.len (lists s) fits (omega (arith, w.if-len-gt-LONGEST.true))
+      ],
+      untouched_same s,
+    )
 
 pub returns-in-Err-clause-says : goal.returns-in-Err-clause-says
 returns-in-Err-clause-says g c =

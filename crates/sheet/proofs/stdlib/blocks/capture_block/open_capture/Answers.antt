@@ -15,7 +15,8 @@ unfolding opened_capture block_of
 returns-clause-says c =
     let e = c.parse_target.new.reader in
     let n = c.in_ok-target.target in
-    let (y, (same, below), g) = c.in_ok-target.ensures.says in
-    (with_arm (capture_block n) always,
-    (ap (λ t. only t (capture_block n)) (lt-ltb n (pool_of e).names below), always_taken (pool_of e) (nodes_in e) (long c.args.reader.now) (long e) (ap length c.in_ok-target.ensures.grown.nodes)),
-    ap (λ v. went v (λ x. pure (with_arm (capture_block x) always))) g ∙ ap (λ x. passes (with_arm (capture_block x) always) (under e)) same)
+    let (y, (same, below), g) = c.in_ok-target.ensures.says in (
+      with_arm (capture_block n) always,
+      (ap (λ t. only t (capture_block n)) (lt-ltb n (pool_of e).names below), always_taken (pool_of e) (nodes_in e) (long c.args.reader.now) (long e) (ap length c.in_ok-target.ensures.grown.nodes)),
+      ap (λ v. went v (λ x. pure (with_arm (capture_block x) always))) g ∙ ap (λ x. passes (with_arm (capture_block x) always) (under e)) same,
+    )

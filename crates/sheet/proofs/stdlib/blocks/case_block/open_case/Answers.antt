@@ -18,10 +18,11 @@ returns-clause-says c =
     let e = c.finish.new.self in
     let (y, is, g) = c.in_ok-target.ensures.says in
     let (u, s, f) = c.in_ok-finish.ensures.says in
-    let after = c.in_ok-finish.ensures.grown in
-    (a_case y,
-    (keeps_expr (pool_of v) (pool_of e) after.pool c.in_ok-target.target y is, after.nodes ∙ c.in_ok-target.ensures.grown.nodes),
-    ap (λ w. went w (λ x. finished next λ t. pure (a_case x))) g ∙ ap (λ w. went w (λ t. pure (a_case y))) f)
+    let after = c.in_ok-finish.ensures.grown in (
+      a_case y,
+      (keeps_expr (pool_of v) (pool_of e) after.pool c.in_ok-target.target y is, after.nodes ∙ c.in_ok-target.ensures.grown.nodes),
+      ap (λ w. went w (λ x. finished next λ t. pure (a_case x))) g ∙ ap (λ w. went w (λ t. pure (a_case y))) f,
+    )
 
 pub returns-clause-longer : goal.returns-clause-longer
 returns-clause-longer c =

@@ -18,9 +18,10 @@ returns-clause-says c =
     let (u, t, held) = c.in_ok-hold.ensures.says in
     let (xs, s, g) = c.in_ok-values.ensures.says in
     let pushed = c.in_ok-hold.ensures.pushed in
-    let same = ap length c.in_ok-values.ensures.nodes in
-    (an_arm (equals_one xs),
-    (omega (arith, pushed, same), when_arm (pool_of e) (nodes_in e) (long d) (long h) (long e) pushed c.in_ok-values.values xs same s),
-    ap (λ v. went (went v (λ _. whens d.mark)) (λ x. pure (an_arm (equals_one x)))) held
-    ∙ ap (λ i. went (whens i (under h)) (λ x. pure (an_arm (equals_one x)))) (sym c.in_ok-hold.ensures.longer.mark)
-    ∙ ap (λ v. went v (λ x. pure (an_arm (equals_one x)))) g)
+    let same = ap length c.in_ok-values.ensures.nodes in (
+      an_arm (equals_one xs),
+      (omega (arith, pushed, same), when_arm (pool_of e) (nodes_in e) (long d) (long h) (long e) pushed c.in_ok-values.values xs same s),
+      ap (λ v. went (went v (λ _. whens d.mark)) (λ x. pure (an_arm (equals_one x)))) held
+          ∙ ap (λ i. went (whens i (under h)) (λ x. pure (an_arm (equals_one x)))) (sym c.in_ok-hold.ensures.longer.mark)
+          ∙ ap (λ v. went v (λ x. pure (an_arm (equals_one x)))) g,
+    )

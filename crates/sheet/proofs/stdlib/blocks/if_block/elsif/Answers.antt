@@ -17,9 +17,10 @@ returns-clause-says c =
     let e = c.parse_condition.new.reader in
     let (u, t, held) = c.in_ok-hold.ensures.says in
     let (y, s, g) = c.in_ok-parse_condition.ensures.says in
-    let pushed = c.in_ok-hold.ensures.pushed in
-    (an_arm (holds y),
-    (omega (arith, pushed, front_length _ _ c.in_ok-parse_condition.ensures.longer.nodes), elsif_arm (pool_of e) (nodes_in e) (long d) (long h) (long e) pushed y s),
-    ap (λ v. went (went v (λ _. condition d.mark)) (λ x. pure (an_arm (holds x)))) held
-    ∙ ap (λ i. went (condition i (under h)) (λ x. pure (an_arm (holds x)))) (sym c.in_ok-hold.ensures.longer.mark)
-    ∙ ap (λ v. went v (λ x. pure (an_arm (holds x)))) g)
+    let pushed = c.in_ok-hold.ensures.pushed in (
+      an_arm (holds y),
+      (omega (arith, pushed, front_length _ _ c.in_ok-parse_condition.ensures.longer.nodes), elsif_arm (pool_of e) (nodes_in e) (long d) (long h) (long e) pushed y s),
+      ap (λ v. went (went v (λ _. condition d.mark)) (λ x. pure (an_arm (holds x)))) held
+          ∙ ap (λ i. went (condition i (under h)) (λ x. pure (an_arm (holds x)))) (sym c.in_ok-hold.ensures.longer.mark)
+          ∙ ap (λ v. went v (λ x. pure (an_arm (holds x)))) g,
+    )
