@@ -3,7 +3,11 @@ use Rattle.std.proofs.Common.{◌≡◌, ℕ, zero, suc, ◌+◌, ◌-◌, ◌*�
 use Rattle.std.proofs.lemmas.Bool.{leb-true, le-leb, lt-leb, lt-ltb, le-ltb, and_left, and_right, and_from}
 use Rattle.std.proofs.lemmas.List.{length-map, length-drop, take_at, take_all}
 use Rattle.cutter.specs.declared.places.Placed.{Placed}
+use Rattle.cutter.specs.Cuts.{Cut}
 use Rattle.tree.specs.Elements.{Tree}
+use Rattle.nodes.specs.declared.exprs.Step.{Step}
+use Rattle.nodes.specs.declared.exprs.Expr.{Expr}
+use Rattle.nodes.specs.declared.exprs.Filter.{Filter}
 use Rattle.nodes.specs.declared.table.Node.{Node}
 use Rattle.nodes.specs.Exprs.{Pool, each, where_so}
 use Rattle.nodes.specs.Trees.{elements_of, tree_at}
@@ -19,19 +23,23 @@ use Rattle.arguments.specs.declared.refusals.Refusal.TheVariants.{UnknownTag}
 use Rattle.arguments.specs.Refusals.{number_of}
 use Rattle.arguments.specs.Judging.{Asked, Lists}
 use Rattle.arguments.specs.Lengths.{lengths_of, CutBack}
-use Rattle.arguments.specs.Tables.{pool_of, lists_of, asked_in}
+use Rattle.arguments.specs.Tables.{pool_of, lists_of, part_in, cycle_of, asked_in}
 use Rattle.arguments.proofs.Paths.{each_more}
 use Rattle.sheet.specs.declared.parser.Parser.{Parser}
 use Rattle.sheet.specs.declared.sheet.Sheet.{Sheet}
 use Rattle.sheet.specs.declared.templates.Template.{Template}
 use Rattle.sheet.specs.Steps.{Outcome, fails, gives, pieces}
+use Rattle.sheet.specs.Blocks.{Tag}
 use Rattle.sheet.specs.Parsing.{Elements, elements}
+use Rattle.sheet.specs.GrammarLaws.{env_of, Apart}
 use Rattle.sheet.specs.Answers.{source_of, nodes_of, count, cut_of, taken, tag_in, ElementsRead, Went, Grew}
 use Rattle.sheet.specs.Loading.{Answer, refused, loaded, first_unknown, all_known, ended, finished, part_of, read_part, load}
 use Rattle.sheet.specs.Parts.{PartRead}
 use Rattle.sheet.specs.Templates.{trees_in}
 use Rattle.sheet.specs.Sheets.{templates_of, trees_of, lists, source_in, Untouched, Added, Loads}
 use Rattle.sheet.proofs.Chaining.{front_length}
+use Rattle.sheet.proofs.Setting.{made}
+use Rattle.sheet.proofs.GrammarDerived.{derived}
 
 pub map_drop : {A B : Type 0} (f : A → B) (n : ℕ) (xs : List A) → drop n (map f xs) ≡ map f (drop n xs)
 map_drop f zero xs = refl
@@ -164,3 +172,56 @@ module _ (s : Sheet) (q : Parser) (ts : List Template) (known : List ℕ → Boo
           trees = λ ys f. ap₂ (λ a b. trees_in (pool_of a.reader) (vec_items a.reader.nodes) b) pq tq ∙ trees_then y z ys f;
         },
       )
+
+-- what was loaded was given by the elements
+all_gives : (t u : Tree) (l m : Lists) (o : Option ℕ) → all_known t l o ≡ loaded u m → l ≡ m
+all_gives t u l m None e = cc
+all_gives t u l m (Some p) e = cc
+
+ended_gives : (known : List ℕ → Bool) (n : ℕ) (t u : Tree) (e : Option Tag) (l m : Lists) → ended known n t e l ≡ loaded u m → l ≡ m
+ended_gives known n t u None l m h = all_gives t u l m (first_unknown known (drop n l.asked)) h
+ended_gives known n t u (Some e) l m h = cc
+
+finished_gives : (known : List ℕ → Bool) (n : ℕ) (v : Outcome Elements) (u : Tree) (m : Lists) → finished known n v ≡ loaded u m → (y : Elements) × (c : Cut) × (v ≡ gives y c m)
+finished_gives known n (fails k p) u m h = cc
+finished_gives known n (gives y c l) u m h = (y, c, ap (gives y c) (ended_gives known n y.tree u y.ending l m h))
+
+-- no names become equal
+pub apart_more : (known : List ℕ → Bool) (source : List ℕ) (from to : ℕ) (l m : Lists) (u : Tree) → read_part known source from to l ≡ loaded u m → Apart (env_of l) → Apart (env_of m)
+apart_more known source from to l m u h a =
+    let (y, c, is) = finished_gives known (length l.asked) (elements source to (suc (pieces (part_of source from to))) 16 (part_of source from to) l) u m h in
+    let (f, is_written, ends, kept, apart) = derived source to (suc (pieces (part_of source from to))) 16 (part_of source from to) c l m y is in
+    apart a
+
+-- tables that have grown and are cut back say the same
+pub lists_back : (p q t : Parser) → Grew p q → CutBack q.reader (lengths_of p.reader) t.reader → lists_of t.reader ≡ lists_of p.reader
+lists_back p q t g c =
+    let d = p.reader in
+    let e = t.reader in
+    let source : e.source.now ≡ d.source.now = ap (λ x. x.now) c.source ∙ g.pool.source in
+    let names : vec_items e.names ≡ vec_items d.names = c.names ∙ front_cut _ _ _ g.names refl in
+    let cycles : vec_items e.cycles ≡ vec_items d.cycles = c.cycles ∙ front_cut _ _ _ g.cycles refl in
+    let nodes : vec_items e.nodes ≡ vec_items d.nodes = c.nodes ∙ front_cut _ _ _ g.nodes refl in
+    let filters : vec_items e.filters ≡ vec_items d.filters = c.filters ∙ front_cut _ _ _ g.pool.filters refl in
+    ap (λ x. made x (map cycle_of (vec_items e.cycles)) (length (vec_items e.nodes)) (map (asked_in e.source.now) (vec_items e.filters))) (ap₂ (λ a b. map (part_in a) b) source names)
+    ∙ ap (λ x. made (map (part_in d.source.now) (vec_items d.names)) x (length (vec_items e.nodes)) (map (asked_in e.source.now) (vec_items e.filters))) (ap (map cycle_of) cycles)
+    ∙ ap (λ x. made (map (part_in d.source.now) (vec_items d.names)) (map cycle_of (vec_items d.cycles)) x (map (asked_in e.source.now) (vec_items e.filters))) (ap length nodes)
+    ∙ ap (λ x. made (map (part_in d.source.now) (vec_items d.names)) (map cycle_of (vec_items d.cycles)) (length (vec_items d.nodes)) x) (ap₂ (λ a b. map (asked_in a) b) source filters)
+
+abbrev pooled : List ℕ → ℕ → ℕ → List Step → List Expr → List Filter → Pool
+pooled source n k steps values filters = record { source = source; names = n; cycles = k; steps = steps; values = values; filters = filters }
+
+pool_back : (p q t : Parser) → Grew p q → CutBack q.reader (lengths_of p.reader) t.reader → pool_of t.reader ≡ pool_of p.reader
+pool_back p q t g c =
+    let d = p.reader in
+    let e = t.reader in
+    ap₂ (λ x y. pooled x y (length (vec_items e.cycles)) (vec_items e.steps) (vec_items e.values) (vec_items e.filters)) (ap (λ x. x.now) c.source ∙ g.pool.source) (ap length (c.names ∙ front_cut _ _ _ g.names refl))
+    ∙ ap₂ (λ x y. pooled d.source.now (length (vec_items d.names)) x y (vec_items e.values) (vec_items e.filters)) (ap length (c.cycles ∙ front_cut _ _ _ g.cycles refl)) (c.steps ∙ front_cut _ _ _ g.pool.steps refl)
+    ∙ ap₂ (λ x y. pooled d.source.now (length (vec_items d.names)) (length (vec_items d.cycles)) (vec_items d.steps) x y) (c.values ∙ front_cut _ _ _ g.pool.values refl) (c.filters ∙ front_cut _ _ _ g.pool.filters refl)
+
+-- the templates decode as before
+pub decode_back : (p q t : Parser) (ts us : List Template) → Grew p q → CutBack q.reader (lengths_of p.reader) t.reader → us ≡ ts → is_some (trees_in (pool_of p.reader) (nodes_of p) ts) ≡ true → is_some (trees_in (pool_of t.reader) (nodes_of t) us) ≡ true
+decode_back p q t ts us g c e h =
+    ap (λ x. is_some (trees_in x (nodes_of t) us)) (pool_back p q t g c)
+    ∙ ap₂ (λ x y. is_some (trees_in (pool_of p.reader) x y)) (c.nodes ∙ front_cut _ _ _ g.nodes refl) e
+    ∙ h

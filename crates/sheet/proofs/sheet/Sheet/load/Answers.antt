@@ -1,7 +1,9 @@
-use Rattle.std.proofs.Common.{◌≡◌, ℕ, ◌+◌, ◌<◌, ◌≤◌, ◌⊎◌, length, Ok, refl, sym, ap, ◌∙◌, subst, arith}
+use Rattle.std.proofs.Common.{◌≡◌, ℕ, ◌+◌, ◌<◌, ◌≤◌, ◌⊎◌, length, Ok, vec_items, refl, sym, ap, ◌∙◌, subst, arith}
 use Rattle.arguments.specs.Lengths.{CutBack}
+use Rattle.arguments.specs.Tables.{lists_of}
+use Rattle.sheet.specs.GrammarLaws.{env_of, Apart}
 use Rattle.sheet.specs.Sheets.{source_in, templates_of, lists}
-use Rattle.sheet.proofs.Whole.{load_outside, load_many, load_long, untouched_same, loads_not, decode_more, loads_one}
+use Rattle.sheet.proofs.Whole.{load_outside, load_many, load_long, untouched_same, loads_not, decode_more, loads_one, lists_back, apart_more, decode_back}
 use Rattle.sheet.proofs.GrammarAccepted.{accepted}
 use Rattle.sheet.proofs.GrammarGroups.{groups_right}
 use Rattle.sheet.proofs.sheet.Sheet.load.Goals as goal
@@ -39,19 +41,37 @@ returns-in-Err-clause-says g c =
     let back = subst (λ n. CutBack q.reader n c.cut_back.new.self.reader) c.lengths-old.ensures c.cut_back.ensures in
     loads_not s _ q c.add-added.ensures.grew back c.in-Err.ensures.not known c.args.place c.args.len c.in-Err.stop (omega (arith, c.if-place-whole.false, c.if-len-whole.false)) (omega (arith, c.if-template-ge-TEMPLATES.false, c.template_count-template.ensures)) (omega (arith, c.if-len-gt-LONGEST.false)) c.in-Err.ensures.says
 
+pub invariant_of-self-clause-apart : goal.invariant_of-self-clause-apart
+invariant_of-self-clause-apart g c =
+    let s = c.args.self.now in
+    let q = c.add-added.new.parser in
+    let back = subst (λ n. CutBack q.reader n c.cut_back.new.self.reader) c.lengths-old.ensures c.cut_back.ensures in
+    subst (λ l. Apart (env_of l)) (sym (lists_back s.parser q c.cut_back.new.self c.add-added.ensures.grew back)) s.apart
+
+pub invariant_of-self-clause-decode : goal.invariant_of-self-clause-decode
+invariant_of-self-clause-decode g c =
+    let s = c.args.self.now in
+    let q = c.add-added.new.parser in
+    let back = subst (λ n. CutBack q.reader n c.cut_back.new.self.reader) c.lengths-old.ensures c.cut_back.ensures in
+    decode_back s.parser q c.cut_back.new.self (templates_of s) (vec_items c.add-added.new.templates) c.add-added.ensures.grew back c.in-Err.ensures.not s.decode
+
 pub invariant_of-self-in_default : goal.invariant_of-self-in_default
 invariant_of-self-in_default g c =
     let known = (g.B.Bank.meaning c.args.bank.now).known in
     let s = c.args.self.now in
     let q = c.add-added.new.parser in
-    record { decode = decode_more s q (Rattle.std.proofs.Common.vec_items c.add-added.new.templates) known c.args.place c.args.len c.add-added.ensures.grew c.in_default.ensures.added c.in_default.ensures.says s.decode }
+    let (y, body, read) = c.in_default.ensures.says in
+    record {
+      apart = apart_more known (source_in s) c.args.place (c.args.place + c.args.len) (lists s) (lists_of q.reader) y read s.apart;
+      decode = decode_more s q (vec_items c.add-added.new.templates) known c.args.place c.args.len c.add-added.ensures.grew c.in_default.ensures.added c.in_default.ensures.says s.decode;
+    }
 
 pub returns-clause-says : goal.returns-clause-says
 returns-clause-says g c =
     let known = (g.B.Bank.meaning c.args.bank.now).known in
     let s = c.args.self.now in
     let q = c.add-added.new.parser in
-    loads_one s q (Rattle.std.proofs.Common.vec_items c.add-added.new.templates) known c.args.place c.args.len c.add-added.ensures.grew c.in_default.ensures.added c.in_default.ensures.says c.template_count-template.result _ c.template_count-template.ensures refl refl (omega (arith, c.if-place-whole.false, c.if-len-whole.false)) (omega (arith, c.if-template-ge-TEMPLATES.false, c.template_count-template.ensures)) (omega (arith, c.if-len-gt-LONGEST.false))
+    loads_one s q (vec_items c.add-added.new.templates) known c.args.place c.args.len c.add-added.ensures.grew c.in_default.ensures.added c.in_default.ensures.says c.template_count-template.result _ c.template_count-template.ensures refl refl (omega (arith, c.if-place-whole.false, c.if-len-whole.false)) (omega (arith, c.if-template-ge-TEMPLATES.false, c.template_count-template.ensures)) (omega (arith, c.if-len-gt-LONGEST.false))
 
 pub returns-then-place-whole-clause-accepted : goal.returns-then-place-whole-clause-accepted
 returns-then-place-whole-clause-accepted g c = accepted
