@@ -8,3 +8,15 @@ pub mod Beginning
 pub mod Guards
 pub mod Leaving
 pub mod Whole
+pub mod GrammarJudging
+pub mod GrammarReads
+pub mod GrammarOnly
+pub mod GrammarGroups
+pub mod GrammarTagging
+pub mod GrammarTagsOnly
+pub mod GrammarDerived
+pub mod GrammarOneWay
+pub mod GrammarKept
+pub mod GrammarFine
+pub mod GrammarTagsFine
+pub mod GrammarAccepted

@@ -9,3 +9,7 @@ pub mod Loading
 pub mod Parts
 pub mod Templates
 pub mod Sheets
+pub mod Grammar
+pub mod GrammarTags
+pub mod GrammarElements
+pub mod GrammarLaws

@@ -2,6 +2,7 @@
 ghost use Rattle.std.specs.Prelude.{◌≡◌, ◌≤◌, [], ◌∷◌, ◌++◌, length, OnOk, OnErr, vec_items};
 ghost use Rattle.sheet.specs.Answers.{source_of, count, Grew};
 ghost use Rattle.sheet.specs.Parts.{PartRead};
+ghost use Rattle.sheet.specs.GrammarLaws.{Derived, OneWay, OnlyTree, Accepted, NotWritten, GroupsRight};
 ghost use Rattle.sheet.specs.Sheets.{source_in, templates_of, lists, Loads};
 
 use crate::parser::Parser;
@@ -96,9 +97,16 @@ impl<'a> Sheet<'a> {
     }
 
     /// Loads the part of `len` bytes at `place` as a template, and tells its number. A part that is refused leaves the sheet as it was.
+    #[tactic(auto, using(crate::proofs::GrammarDerived::derived, crate::proofs::GrammarOneWay::one_way, crate::proofs::GrammarOneWay::only_tree, crate::proofs::GrammarAccepted::not_written))]
     pub fn load<B: Bank>(&mut self, place: usize, len: usize, bank: &mut B) -> Result<usize, Stop>
         ensures says { Loads (B.Bank.meaning bank.old).known place len self.old result self.new }
         ensures same { B.Bank.meaning bank.new ≡ B.Bank.meaning bank.old }
+        ensures derived { Derived }
+        ensures one_way { OneWay }
+        ensures only_tree { OnlyTree }
+        ensures accepted { Accepted }
+        ensures not_written { NotWritten }
+        ensures groups_right { GroupsRight }
     {
         let template = self.template_count();
         let whole = self.parser.reader.source.len();

@@ -2,6 +2,8 @@ use Rattle.std.proofs.Common.{◌≡◌, ℕ, ◌+◌, ◌<◌, ◌≤◌, ◌�
 use Rattle.arguments.specs.Lengths.{CutBack}
 use Rattle.sheet.specs.Sheets.{source_in, templates_of, lists}
 use Rattle.sheet.proofs.Whole.{load_outside, load_many, load_long, untouched_same, loads_not, decode_more, loads_one}
+use Rattle.sheet.proofs.GrammarAccepted.{accepted}
+use Rattle.sheet.proofs.GrammarGroups.{groups_right}
 use Rattle.sheet.proofs.sheet.Sheet.load.Goals as goal
 use Rattle.sheet.proofs.sheet.Sheet.load.Goals.{then-place-whole-via-then-place-whole, then-place-whole-via-else-place-whole+then-len-whole, then-template-ge-TEMPLATES-via-then-template-ge-TEMPLATES, then-template-ge-TEMPLATES-via-else-template-ge-TEMPLATES+then-len-gt-LONGEST}
 
@@ -50,3 +52,27 @@ returns-clause-says g c =
     let s = c.args.self.now in
     let q = c.add-added.new.parser in
     loads_one s q (Rattle.std.proofs.Common.vec_items c.add-added.new.templates) known c.args.place c.args.len c.add-added.ensures.grew c.in_default.ensures.added c.in_default.ensures.says c.template_count-template.result _ c.template_count-template.ensures refl refl (omega (arith, c.if-place-whole.false, c.if-len-whole.false)) (omega (arith, c.if-template-ge-TEMPLATES.false, c.template_count-template.ensures)) (omega (arith, c.if-len-gt-LONGEST.false))
+
+pub returns-then-place-whole-clause-accepted : goal.returns-then-place-whole-clause-accepted
+returns-then-place-whole-clause-accepted g c = accepted
+
+pub returns-then-place-whole-clause-groups_right : goal.returns-then-place-whole-clause-groups_right
+returns-then-place-whole-clause-groups_right g c = groups_right
+
+pub returns-then-template-ge-TEMPLATES-clause-accepted : goal.returns-then-template-ge-TEMPLATES-clause-accepted
+returns-then-template-ge-TEMPLATES-clause-accepted g c = accepted
+
+pub returns-then-template-ge-TEMPLATES-clause-groups_right : goal.returns-then-template-ge-TEMPLATES-clause-groups_right
+returns-then-template-ge-TEMPLATES-clause-groups_right g c = groups_right
+
+pub returns-in-Err-clause-accepted : goal.returns-in-Err-clause-accepted
+returns-in-Err-clause-accepted g c = accepted
+
+pub returns-in-Err-clause-groups_right : goal.returns-in-Err-clause-groups_right
+returns-in-Err-clause-groups_right g c = groups_right
+
+pub returns-clause-accepted : goal.returns-clause-accepted
+returns-clause-accepted g c = accepted
+
+pub returns-clause-groups_right : goal.returns-clause-groups_right
+returns-clause-groups_right g c = groups_right
