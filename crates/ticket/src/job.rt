@@ -1,7 +1,7 @@
 //! A job: one action a line. Blank lines and lines that begin with `#` are comments.
 
-ghost use Rattle.std.specs.Prelude.{◌≡◌, ◌++◌, IfOk, OnOk};
-ghost use Rattle.tray.specs.Parts.{cut};
+ghost use Rattle.std.specs.Prelude.{◌≡◌, ◌++◌, IfOk, OnOk, [], ◌∷◌, length};
+ghost use Rattle.ticket.specs.declared.job.Action.TheVariants as action;
 
 use crate::cursor::Cursor;
 use crate::faults::{Fault, JobError, Place};
@@ -101,7 +101,10 @@ impl Job {
     }
 
     // One more action, `template NAME` with these bytes.
-    pub(crate) fn add(&mut self, name: Vec<u8>, bytes: &[u8]) -> Result<(), AllocError> {
+    pub(crate) fn add(&mut self, name: Vec<u8>, bytes: &[u8]) -> Result<(), AllocError>
+        ensures source { OnOk result (self.new.source.items ≡ self.old.source.items ++ bytes.now) }
+        ensures action { OnOk result (self.new.actions.items ≡ self.old.actions.items ++ action.Template (record { name = name; part = record { place = length self.old.source.items; len = length bytes.now } }) ∷ []) }
+    {
         let part = join_source(&mut self.source, bytes)?;
         self.actions
             .push(Action::Template(Template { name, part }))?;
@@ -219,7 +222,7 @@ fn read_part(
 // The part that these bytes become at the end of the source.
 fn join_source(source: &mut Vec<u8>, bytes: &[u8]) -> Result<Part, AllocError>
     ensures source { OnOk result (source.new.items ≡ source.old.items ++ bytes.now) }
-    ensures part { IfOk result (λ p. cut source.new.items p.place p.len ≡ bytes.now) }
+    ensures part { IfOk result (λ p. (p.place ≡ length source.old.items) × (p.len ≡ length bytes.now)) }
 {
     let place = source.len();
     source.extend_from_slice(bytes)?;
