@@ -3,5 +3,6 @@
 
 #![tactic(auto)]
 
+pub mod book;
 pub mod exprs;
 pub mod table;

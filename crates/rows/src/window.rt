@@ -8,7 +8,7 @@ use crate::row::Row;
 use std::ops::Range;
 
 /// A part of a row: the items at places not below the offset and, given a limit, below offset plus limit; reversed last.
-#[derive(Drop, Debug, PartialEq, Eq)]
+#[derive(Clone, Copy, Debug, PartialEq, Eq)]
 pub struct Window<R> {
     row: R,
     offset: i64,

@@ -1,0 +1,5 @@
+//! How two values of a comparison compare.
+
+#![tactic(auto)]
+
+pub mod compare;

@@ -1,0 +1,7 @@
+//! What a rendering handles: values with their texts, faults, and what never changes while a ticket is rendered.
+
+#![tactic(auto)]
+
+pub mod faults;
+pub mod scenes;
+pub mod value;

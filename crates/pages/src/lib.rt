@@ -1,0 +1,5 @@
+//! Pieces of text, written into a caller's buffer.
+
+#![tactic(auto)]
+
+pub mod write;

@@ -1,0 +1,1 @@
+// Pieces, written whole or not at all.
