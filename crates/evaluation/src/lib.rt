@@ -1,3 +1,4 @@
-//! 
+//! What the values of a template come to: names, steps, numbers, and values that go through filters.
 
 #![tactic(auto)]
+

@@ -1,3 +1,4 @@
 pub mod Faults
 pub mod Value
 pub mod Scenes
+pub mod Records

@@ -3,5 +3,6 @@
 #![tactic(auto)]
 
 pub mod faults;
+pub mod records;
 pub mod scenes;
 pub mod value;

@@ -24,7 +24,7 @@ pub enum Step<'a> {
 #[derive(Clone, Copy, Debug, PartialEq, Eq)]
 pub enum Found {
     Record(usize),
-    Size(usize),
+    Size(u16),
 }
 
 // The place of an index from 0, or of a negative one from the end, among `count`.
@@ -49,12 +49,13 @@ fn item_named(items: Span, name: &[u8]) -> Option<Found>
     match name {
         b"first" => item(items, 0),
         b"last" => item(items, -1),
-        b"size" => Some(Found::Size(items.count as usize)),
+        b"size" => Some(Found::Size(items.count)),
         _ => None,
     }
 }
 
-fn into_items(items: Span, step: Step) -> Option<Found>
+/// Where a step into an array of these items comes to, if it comes anywhere.
+pub fn into_items(items: Span, step: Step) -> Option<Found>
     ensures { result ≡ among_items items.first items.count (step_of step.entry) }
 {
     match step {
@@ -69,7 +70,7 @@ fn entry_named(tray: &Tray, entries: Span, name: &[u8]) -> Option<Found>
     if let Some(i) = find_in(tray, entries, name) {
         return Some(Found::Record(i));
     }
-    same_text(name, b"size").then_some(Found::Size(entries.count as usize))
+    same_text(name, b"size").then_some(Found::Size(entries.count))
 }
 
 fn into_entries(tray: &Tray, entries: Span, step: Step) -> Option<Found>
