@@ -1,12 +1,12 @@
 -- What drawers hold, thing by thing.
-use Rattle.std.specs.Prelude.{ℕ, List, [], Some, None, Option, vec_items, slice_index_or}
+use Rattle.std.specs.Prelude.{ℕ, [], None, Option, vec_items, slice_index_or}
 use Rattle.std.specs.Option.{option_map, unwrap_or}
 use Rattle.held.specs.Value.{held_by}
 use Rattle.drawers.specs.declared.drawer.Drawer.{Drawer}
 use Rattle.arrayvec.specs.ArrayVec.{ArrayVec}
 use Rattle.held.specs.declared.value.Value.{Value}
 use Rattle.drawers.specs.declared.things.Drawers as code
-use Rattle.meaning.specs.Things.{Thing, name, cycle_name, changed, Held, Content, Drawers}
+use Rattle.meaning.specs.Things.{name, cycle_name, changed, Held, Drawers}
 
 -- the value that is kept
 abbrev pub held_of : Value (ArrayVec ℕ) → Held

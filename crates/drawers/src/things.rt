@@ -5,6 +5,8 @@ use crate::drawer::Drawer;
 use crate::kept::Kept;
 use arrayvec::ArrayVec;
 
+mod contents;
+
 /// What outlives a ticket. It has room for the names of every sheet, and no later call needs memory.
 #[derive(Drop)]
 pub struct Drawers {
