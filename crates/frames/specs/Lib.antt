@@ -1,2 +1,3 @@
 pub mod Items
+pub mod Visits
 pub mod Views
