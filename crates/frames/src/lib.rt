@@ -2,6 +2,7 @@
 
 #![tactic(auto)]
 
+pub mod columns;
 pub mod frame;
 pub mod item;
 pub mod met;
