@@ -3,6 +3,7 @@
 #![tactic(auto)]
 
 pub mod columns;
+mod fields;
 pub mod frame;
 pub mod item;
 pub mod met;
