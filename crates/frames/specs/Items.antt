@@ -1,5 +1,5 @@
 -- What items and rows stand for.
-use Rattle.std.specs.Prelude.{ℕ, ◌+◌, List, [], ◌∷◌, map}
+use Rattle.std.specs.Prelude.{ℕ, List, [], ◌∷◌, map}
 use Rattle.rows.specs.Counted as counted
 use Rattle.values.specs.RowsOf.{stepping}
 use Rattle.frames.specs.declared.item.Item.{Item}
@@ -22,4 +22,4 @@ items_in row.Once = item.Nil ∷ []
 items_in (row.Items s) = map item.Record (stepping s.span.first 1 s.span.count)
 items_in (row.Pairs s) = map item.Pair (stepping s.span.first 2 s.span.count)
 items_in (row.Numbers s) = map item.Whole (counted.held s.from s.to)
-items_in (row.Pair i) = item.Record i ∷ item.Record (i + 1) ∷ []
+items_in (row.Pair k v) = item.Record k ∷ item.Record v ∷ []

@@ -1,2 +1,4 @@
 pub mod Items
+pub mod Fields
+pub mod Visits
 pub mod Views

@@ -1,8 +1,12 @@
 // Items of loops, and the rows that loops go over.
+ghost use Rattle.std.specs.Prelude.{◌≡◌, length, pos};
+ghost use Rattle.std.specs.Option.{unwrap_or};
+ghost use Rattle.rows.specs.Windows.{windowed};
 ghost use Rattle.frames.specs.Items.{items_in};
 
 use rows::numbers::Numbers;
 use rows::row::Row;
+use rows::window::Window;
 use values::rows_of::{Items, Pairs};
 
 /// An item of a loop: nil, a record of the tray by number, a pair by that of its key's record, or a whole number.
@@ -14,7 +18,7 @@ pub enum Item {
     Whole(i64),
 }
 
-/// What a loop may go over: the items of an array, the pairs of an object, numbers, or the key and the value of a pair.
+/// What a loop may go over: the items of an array, the pairs of an object, numbers, or the key and the value of a pair, by the numbers of their records.
 /// A block that is no loop goes over nil, once.
 #[derive(Clone, Copy)]
 pub enum AnyRow {
@@ -22,5 +26,67 @@ pub enum AnyRow {
     Items(Items),
     Pairs(Pairs),
     Numbers(Numbers),
-    Pair(usize),
+    Pair { key: usize, value: usize },
+}
+
+impl Row for AnyRow {
+    type Item = Item;
+
+    ghost items = { items_in };
+
+    fn count(&self) -> usize {
+        match self {
+            AnyRow::Once => 1,
+            AnyRow::Items(items) => items.count(),
+            AnyRow::Pairs(pairs) => pairs.count(),
+            AnyRow::Numbers(numbers) => numbers.count(),
+            AnyRow::Pair { .. } => 2,
+        }
+    }
+
+    fn item(&self, k: usize) -> Option<Item> {
+        match self {
+            AnyRow::Once => (k == 0).then_some(Item::Nil),
+            AnyRow::Items(items) => items.item(k).map(Item::Record),
+            AnyRow::Pairs(pairs) => pairs.item(k).map(Item::Pair),
+            AnyRow::Numbers(numbers) => numbers.item(k).map(Item::Whole),
+            AnyRow::Pair { key, value } => match k {
+                0 => Some(Item::Record(*key)),
+                1 => Some(Item::Record(*value)),
+                _ => None,
+            },
+        }
+    }
+}
+
+impl AnyRow {
+    // As `count`, and that it is a 16-bit number.
+    fn size(self) -> u16
+        ensures { result ≡ length (items_in self) }
+    {
+        match self {
+            AnyRow::Once => 1,
+            AnyRow::Items(items) => items.count() as u16,
+            AnyRow::Pairs(pairs) => pairs.count() as u16,
+            AnyRow::Numbers(numbers) => numbers.count() as u16,
+            AnyRow::Pair { .. } => 2,
+        }
+    }
+
+    /// The window over the row, and how many items it shows. Without an offset it begins at the row's first item.
+    pub fn shown(
+        self,
+        offset: Option<i64>,
+        limit: Option<i64>,
+        reversed: bool,
+    ) -> (Window<AnyRow>, u16)
+        ensures made { (result.0.row ≡ self) × (result.0.offset ≡ unwrap_or offset (pos 0)) × (result.0.limit ≡ limit) × (result.0.reversed ≡ reversed) }
+        ensures times { result.1 ≡ length (windowed (unwrap_or offset (pos 0)) limit reversed (items_in self)) }
+    {
+        // For what it says: the row has no more items than a 16-bit number counts, and so has the window.
+        let _most = self.size();
+        let window = Window::new(self, offset, limit, reversed);
+        let times = window.count() as u16;
+        (window, times)
+    }
 }

@@ -2,6 +2,8 @@
 
 #![tactic(auto)]
 
+pub mod columns;
+mod fields;
 pub mod frame;
 pub mod item;
 pub mod met;

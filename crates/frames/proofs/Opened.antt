@@ -1,0 +1,24 @@
+-- The open frames, the innermost first, as one of a table is opened, closed or changed.
+use Rattle.std.proofs.Common.{◌≡◌, ℕ, zero, suc, ◌+◌, ◌-◌, ◌<◌, ◌≤◌, List, [], ◌∷◌, ◌++◌, reverse, length, get_or, set, take, drop, sym, refl, ap, ◌∙◌, arith}
+use Rattle.std.proofs.lemmas.List.{take_more, take_more_set, take-set-le, reverse-append, length-reverse, length-take-le}
+
+-- the first k of a table, the last of them first
+abbrev pub opened : {X : Type 0} → ℕ → List X → List X
+opened k t = reverse (take k t)
+
+module _ {X : Type 0} where
+  pub opened_more : (t : List X) (k : ℕ) (d : X) → k < length t → opened (k + 1) t ≡ get_or t k d ∷ opened k t
+  opened_more t k d l = ap reverse (take_more t k d l) ∙ reverse-append (take k t) (get_or t k d ∷ [])
+
+  pub opened_set : (t : List X) (k : ℕ) (x : X) → k < length t → opened (k + 1) (set t k x) ≡ x ∷ opened k t
+  opened_set t k x l = ap reverse (take_more_set t k x l) ∙ reverse-append (take k t) (x ∷ [])
+
+  pub opened_length : (t : List X) (k : ℕ) → k ≤ length t → length (opened k t) ≡ k
+  opened_length t k l = length-reverse (take k t) ∙ length-take-le k t l
+
+  pub opened_less : (t : List X) (n : ℕ) → n ≤ length t → opened (n - 1) t ≡ drop 1 (opened n t)
+  opened_less t zero l = refl
+  opened_less [] (suc n) l = absurd (omega arith)
+  opened_less (x ∷ t) (suc n) l =
+      ap (λ k. opened k (x ∷ t)) (let e : suc n - 1 ≡ n = omega arith in e)
+      ∙ ap (drop 1) (sym (opened_more (x ∷ t) n x (omega arith)) ∙ ap (λ k. opened k (x ∷ t)) (let e : n + 1 ≡ suc n = omega arith in e))
