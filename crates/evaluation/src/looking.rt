@@ -1,0 +1,97 @@
+// What a value of a template comes to.
+ghost use Rattle.std.specs.Prelude.{◌≡◌, ℕ, List, Some};
+ghost use Rattle.std.specs.Option.{option_map};
+ghost use Rattle.drawers.specs.Shown.{shows};
+ghost use Rattle.evaluation.specs.Values.{Found, Reached, Evaluated, NumberFound};
+ghost use Rattle.frames.specs.Items.{item_of};
+ghost use Rattle.held.specs.Records.{held_in};
+ghost use Rattle.held.specs.Scenes.{host_in};
+ghost use Rattle.meaning.specs.Looking.{number_of};
+
+use crate::names::{outside, part_in};
+use crate::steps::walk;
+use drawers::things::Drawers;
+use frames::item::Item;
+use frames::met::Met;
+use frames::stack::Frames;
+use held::faults::Fault;
+use held::records::record_value;
+use held::scenes::Scene;
+use held::value::Value;
+use nodes::book::entries;
+use nodes::exprs::{Expr, Head};
+use numerals::read_whole;
+
+// An item of a loop as a value.
+fn item_value<'a>(scene: Scene<'a>, item: Item) -> Value<&'a [u8]>
+    ensures { held_in result ≡ item_of (host_in scene.entry) item }
+{
+    match item {
+        Item::Nil => Value::Nil,
+        Item::Record(i) => record_value(scene.tray, i),
+        Item::Pair(i) => Value::Pair(i),
+        Item::Whole(n) => Value::Whole(n),
+    }
+}
+
+// What a path begins at: a loop object, or a name, which the innermost frame that binds it decides, else what it means outside the frames.
+fn find<'a>(scene: Scene<'a>, frames: &Frames, drawers: &'a Drawers, head: Head) -> Option<Met<'a>>
+    ensures { Found scene.entry frames.now (shows drawers.now) head result }
+{
+    match head {
+        Head::Forloop => Some(Met::Loop(frames.nearest_for()?)),
+        Head::Tablerowloop => Some(Met::Loop(frames.nearest_table()?)),
+        Head::Name(n) => {
+            if let Some(item) = frames.bound(n) {
+                return Some(Met::Value(item_value(scene, item)));
+            }
+            Some(Met::Value(outside(scene, drawers, n)?))
+        }
+    }
+}
+
+/// What a value comes to, if it is there.
+pub fn reach<'a>(scene: Scene<'a>, frames: &Frames, drawers: &'a Drawers, value: Expr) -> Option<Met<'a>>
+    ensures { Reached scene.entry frames.now (shows drawers.now) value result }
+{
+    match value {
+        Expr::Nil => Some(Met::Value(Value::Nil)),
+        Expr::Boolean(b) => Some(Met::Value(Value::Boolean(b))),
+        Expr::Number(n) => Some(Met::Value(Value::Whole(n))),
+        Expr::Text(part) => Some(Met::Value(Value::Text(part_in(scene.book, part)))),
+        Expr::Path(head, steps) => {
+            let met = find(scene, frames, drawers, head)?;
+            walk(scene, frames, met, entries(scene.book.steps, steps))
+        }
+    }
+}
+
+/// What a value comes to; an absent value is a fault, and so is a loop object itself.
+pub fn eval<'a>(scene: Scene<'a>, frames: &Frames, drawers: &'a Drawers, value: Expr) -> Result<Value<&'a [u8]>, Fault>
+    ensures { Evaluated scene.entry frames.now (shows drawers.now) value result }
+{
+    match reach(scene, frames, drawers, value) {
+        None => Err(Fault::Absent),
+        Some(Met::Value(value)) => Ok(value),
+        Some(Met::Loop(_)) => Err(Fault::LoopObject),
+    }
+}
+
+// The whole number that can be read from a value.
+fn number_in(value: Value<&[u8]>) -> Option<i64>
+    ensures { result ≡ number_of (held_in value.entry) }
+{
+    match value {
+        Value::Whole(n) => Some(n),
+        Value::Text(text) => read_whole(text),
+        _ => None,
+    }
+}
+
+/// The whole number that a value comes to; what is no whole number is a fault.
+pub fn number(scene: Scene, frames: &Frames, drawers: &Drawers, value: Expr) -> Result<i64, Fault>
+    ensures { NumberFound scene.entry frames.now (shows drawers.now) value result }
+{
+    let value = eval(scene, frames, drawers, value)?;
+    number_in(value).ok_or(Fault::NoNumber)
+}

@@ -1,0 +1,3 @@
+//! Tickets: templates of a sheet rendered with a tray, drawers and a bank into a buffer.
+
+#![tactic(auto)]
