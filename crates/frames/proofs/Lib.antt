@@ -1,2 +1,4 @@
 pub mod Opened
+pub mod Looking
+pub mod Found
 pub mod Shown

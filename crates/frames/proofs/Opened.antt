@@ -1,5 +1,5 @@
 -- The open frames, the innermost first, as one of a table is opened, closed or changed.
-use Rattle.std.proofs.Common.{◌≡◌, ℕ, zero, suc, ◌+◌, ◌-◌, ◌<◌, ◌≤◌, List, [], ◌∷◌, ◌++◌, reverse, length, get_or, set, take, drop, sym, refl, ap, ◌∙◌, arith}
+use Rattle.std.proofs.Common.{◌≡◌, ℕ, zero, suc, ◌+◌, ◌-◌, ◌<◌, ◌≤◌, List, [], ◌∷◌, ◌++◌, map, reverse, length, get_or, set, take, drop, sym, refl, ap, ◌∙◌, arith}
 use Rattle.std.proofs.lemmas.List.{take_more, take_more_set, take-set-le, reverse-append, length-reverse, length-take-le}
 
 -- the first k of a table, the last of them first
@@ -22,3 +22,12 @@ module _ {X : Type 0} where
   opened_less (x ∷ t) (suc n) l =
       ap (λ k. opened k (x ∷ t)) (let e : suc n - 1 ≡ n = omega arith in e)
       ∙ ap (drop 1) (sym (opened_more (x ∷ t) n x (omega arith)) ∙ ap (λ k. opened k (x ∷ t)) (let e : n + 1 ≡ suc n = omega arith in e))
+
+  pub opened_last : (t : List X) (n : ℕ) (d : X) → 0 < n → n ≤ length t → opened n t ≡ get_or t (n - 1) d ∷ opened (n - 1) t
+  opened_last t n d p l = ap (λ k. opened k t) (let e : n ≡ n - 1 + 1 = omega arith in e) ∙ opened_more t (n - 1) d (omega arith)
+
+pub opened_drop : {X Y : Type 0} (f : X → Y) (t : List X) (i m n : ℕ) → i + n ≡ m → m ≤ length t → drop i (map f (opened m t)) ≡ map f (opened n t)
+opened_drop f t zero m n e l = ap (λ k. map f (opened k t)) (let q : m ≡ n = omega arith in q)
+opened_drop f [] (suc i) m n e l = absurd (omega arith)
+opened_drop f (x ∷ t) (suc i) m n e l =
+    ap (λ fs. drop (suc i) (map f fs)) (opened_last (x ∷ t) m x (omega arith) l) ∙ opened_drop f (x ∷ t) i (m - 1) n (omega arith) (omega arith)

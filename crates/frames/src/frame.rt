@@ -1,5 +1,12 @@
 // Visits that are under way.
+ghost use Rattle.std.specs.Prelude.{◌≡◌, ◌-◌, Option, Some, cond, drop, length};
+ghost use Rattle.std.specs.Option.{option_map, option_or};
+ghost use Rattle.meaning.specs.Things.{Held};
+ghost use Rattle.meaning.specs.Frames.{Frames, LoopObject, binding, for_at, table_at};
+ghost use Rattle.frames.specs.Views.{manner_of, loop_of};
+
 use crate::item::{AnyRow, Item};
+use crate::met::Loop;
 use rows::window::Window;
 
 /// How the arm of a block that was taken is visited: once; for each item; as cells of a table; with its text kept as a variable; with its text shown where it has changed.
@@ -35,6 +42,53 @@ pub struct Frame {
     pub next: usize,
     pub outer: usize,
     pub mark: usize,
+}
+
+impl Frame {
+    // The index of the visit, from 0.
+    fn index(&self) -> u16
+        ensures { result ≡ self.now.visit - 1 }
+    {
+        self.visit.saturating_sub(1)
+    }
+
+    /// Whether it binds the variable to its item.
+    pub(crate) fn binds(&self, name: usize) -> bool
+        ensures { (x : Held) (outer : Option Held) → binding (manner_of self.now.manner) x name outer ≡ cond result (Some x) outer }
+    {
+        match self.manner {
+            Manner::Each { variable, .. } | Manner::Cells { variable, .. } => variable == name,
+            Manner::Once | Manner::Keeping(_) | Manner::Watching => false,
+        }
+    }
+
+    /// Its loop object, where it is of a `for` that has `around` frames around it.
+    pub(crate) fn for_object(&self, around: usize) -> Option<Loop>
+        ensures { (fs : Frames) (outer : Option LoopObject) → for_at (manner_of self.now.manner) (self.now.visit - 1) (drop (length fs - around) fs) outer ≡ option_or (option_map (loop_of fs) result) outer }
+    {
+        match self.manner {
+            Manner::Each { count, .. } => Some(Loop::For {
+                count,
+                index: self.index(),
+                around,
+            }),
+            _ => None,
+        }
+    }
+
+    /// Its loop object, where it is of a table.
+    pub(crate) fn table_object(&self) -> Option<Loop>
+        ensures { (fs : Frames) (outer : Option LoopObject) → table_at (manner_of self.now.manner) (self.now.visit - 1) outer ≡ option_or (option_map (loop_of fs) result) outer }
+    {
+        match self.manner {
+            Manner::Cells { count, cols, .. } => Some(Loop::Table {
+                count,
+                index: self.index(),
+                cols,
+            }),
+            _ => None,
+        }
+    }
 }
 
 /// A record of a fault's trail: blank, or the place of a block and the number of a visit, 0 outside a loop's visits.

@@ -1,6 +1,8 @@
 // The frame table.
 ghost use Rattle.std.specs.Prelude.{◌≤◌};
 
+mod looking;
+
 use crate::frame::{Frame, Manner};
 use crate::item::{AnyRow, Item};
 use rows::window::Window;
