@@ -1,17 +1,18 @@
 -- What is put behind the text is what the definition's act writes.
-use Rattle.std.proofs.Common.{◌≡◌, ℕ, ◌+◌, ◌<◌, ◌≤◌, Bool, true, false, cond, List, ◌++◌, length, take, drop, None, Ok, Err, sym, refl, ap, ◌∙◌, arith, rules}
-use Rattle.std.specs.Prelude.{Result, nat_le}
+use Rattle.std.proofs.Common.{◌≡◌, ℕ, ◌+◌, ◌<◌, ◌≤◌, Bool, cond, List, ◌++◌, length, take, drop, None, Ok, Err, sym, refl, ap, ◌∙◌, subst, arith}
+use Rattle.std.specs.Prelude.{Result}
 use Rattle.std.proofs.lemmas.Bool.{le-leb, lt-leb}
-use Rattle.std.proofs.lemmas.List.{append_assoc, length-append, length-take-le, length-drop, take_at}
+use Rattle.std.proofs.lemmas.List.{append_assoc, append-nil, length-append, length-take-le, length-drop, take_at}
 use Rattle.held.specs.declared.faults.Fault.{Fault}
 use Rattle.held.specs.declared.faults.Fault.TheVariants.{NoRoom}
 use Rattle.held.specs.Faults.{ended}
+use Rattle.values.specs.Value.{Value, written}
+use Rattle.values.specs.RowsOf.{paired}
 use Rattle.texts.specs.Written.{LaidAt}
-use Rattle.texts.proofs.Fills.{lay_more}
+use Rattle.texts.proofs.Fills.{lay_more, lay_as}
 use Rattle.meaning.specs.Things.{Drawers}
 use Rattle.meaning.specs.Frames.{Frames}
-use Rattle.meaning.specs.Acts.{End, gives, stops, Step, step, still, emit, fault_at}
-use Rattle.pages.specs.Written.{to, Did, Wrote}
+use Rattle.meaning.specs.Acts.{End, gives, stops, step, still, emit, fault_at}
 use Rattle.pages.specs.Pieces.{Stands, Refused, Puts, Emits}
 
 abbrev chosen : ℕ → Frames → List ℕ → List ℕ → Bool → List ℕ × End (Unit {0})
@@ -61,3 +62,31 @@ module _ {w : List ℕ} {filled : ℕ} {old new : List ℕ} where
         puts = s;
         past = λ _. s.same;
       }
+
+-- one piece behind another
+pub two_laid : {from : ℕ} {a old mid : List ℕ} {end : ℕ} → LaidAt from a old mid end → {b new : List ℕ} {last : ℕ} → LaidAt end b mid new last → from + (length a + length b) ≤ length old → Stands (a ++ b) from old new last
+two_laid {from} {a} {old} x {b} y l = record { room = omega (arith, length-append a b, l); laid = lay_more x (omega (arith, l)) y }
+
+pub three_laid : {from : ℕ} {a old mid : List ℕ} {end : ℕ} → LaidAt from a old mid end → {b more : List ℕ} {next : ℕ} → LaidAt end b mid more next → {w new : List ℕ} {last : ℕ} → LaidAt next w more new last →
+    from + (length a + (length b + length w)) ≤ length old → Stands (a ++ (b ++ w)) from old new last
+three_laid {from} {a} {old} x {b} y {w} z l =
+    record {
+      room = omega (arith, length-append a (b ++ w), length-append b w, l);
+      laid = lay_as (lay_more (lay_more x (omega (arith, l)) y) (omega (arith, l)) z) (a ++ (b ++ w)) (sym (append_assoc a b w));
+    }
+
+-- a piece has no room behind the text, where the text ends past the buffer, or less is left
+pub refuses : {w : List ℕ} {filled : ℕ} {old : List ℕ} → length old < filled + length w → Refused w filled old old NoRoom
+refuses l = record { why = refl; short = l; same = refl }
+
+-- the text of a pair
+paired_text : (a b : Value) → written (paired a b) ≡ written a ++ written b
+paired_text a b = ap (λ t. written a ++ t) (append-nil (written b))
+
+pub pair_laid : (a b behind : Value) → b ≡ behind → {from : ℕ} {old mid : List ℕ} {end : ℕ} → LaidAt from (written a) old mid end → {new : List ℕ} {last : ℕ} → LaidAt end (written b) mid new last →
+    from + (length (written a) + length (written b)) ≤ length old → Stands (written (paired a behind)) from old new last
+pair_laid a b behind e {from} {old} x {new} {last} y l =
+    subst (λ t. Stands t from old new last) (ap (λ v. written a ++ written v) e ∙ sym (paired_text a behind)) (two_laid x y l)
+
+pub pair_long : (a b behind : Value) → b ≡ behind → length (written (paired a behind)) ≡ length (written a) + length (written b)
+pair_long a b behind e = ap length (paired_text a behind) ∙ length-append (written a) (written behind) ∙ ap (λ v. length (written a) + length (written v)) (sym e)

@@ -3,7 +3,7 @@ ghost use Rattle.std.specs.Prelude.{◌≡◌, ◌+◌, length, nat_le};
 ghost use Rattle.values.specs.Value.{written};
 ghost use Rattle.values.specs.Meaning.{value_of};
 ghost use Rattle.values.specs.RowsOf.{pair_value};
-ghost use Rattle.pages.specs.Pieces.{Puts};
+ghost use Rattle.pages.specs.Pieces.{Emits};
 
 use crate::lay::lay_text;
 use held::faults::Fault;
@@ -28,8 +28,13 @@ fn both_fit(tray: &Tray, key: usize, value: usize, room: usize) -> bool
 }
 
 // Writes the text of the pair whose key is record i.
-pub(crate) fn write_pair(tray: &Tray, i: usize, out: &mut [u8], filled: usize) -> Result<usize, Fault>
-    ensures { Puts (written (pair_value tray.now i)) filled out.old out.new result }
+pub(crate) fn write_pair(
+    tray: &Tray,
+    i: usize,
+    out: &mut [u8],
+    filled: usize,
+) -> Result<usize, Fault>
+    ensures { Emits (written (pair_value tray.now i)) filled out.old out.new result }
 {
     let value = behind(tray, i);
     let Some(room) = out.len().checked_sub(filled) else {

@@ -55,7 +55,12 @@ fn write_record(tray: &Tray, i: usize, out: &mut [u8], filled: usize) -> Result<
 }
 
 /// Writes the text of a value.
-pub fn write_value(tray: &Tray, value: Value<&[u8]>, out: &mut [u8], filled: usize) -> Result<usize, Fault>
+pub fn write_value(
+    tray: &Tray,
+    value: Value<&[u8]>,
+    out: &mut [u8],
+    filled: usize,
+) -> Result<usize, Fault>
     ensures { Emits (text_in tray.now (held_by (λ t. t.now) value.entry)) filled out.old out.new result }
 {
     match value {

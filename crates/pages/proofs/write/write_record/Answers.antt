@@ -1,4 +1,4 @@
-use Rattle.std.proofs.Common.{Ok, Err, refl, rules, arith}
+use Rattle.std.proofs.Common.{Ok, Err, refl, arith}
 use Rattle.std.proofs.lemmas.Grind.{common_steps}
 use Rattle.pages.proofs.Emitted.{emits}
 use Rattle.pages.proofs.write.write_record.Goals as goal
