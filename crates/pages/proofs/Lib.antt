@@ -1,0 +1,2 @@
+pub mod Emitted
+pub mod Past

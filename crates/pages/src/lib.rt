@@ -2,4 +2,8 @@
 
 #![tactic(auto)]
 
+pub mod cuts;
+mod lay;
+pub mod marks;
+mod pairs;
 pub mod write;

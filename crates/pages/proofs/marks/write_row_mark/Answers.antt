@@ -1,0 +1,5 @@
+use Rattle.pages.proofs.Emitted.{emits}
+use Rattle.pages.proofs.marks.write_row_mark.Goals as goal
+
+pub returns : goal.returns
+returns c = emits _ c.write_mark.ensures
