@@ -2,5 +2,6 @@
 
 #![tactic(auto)]
 
+pub mod looking;
 pub mod names;
 pub mod steps;

@@ -1,18 +1,22 @@
 // What a value of a template comes to.
 ghost use Rattle.std.specs.Prelude.{◌≡◌, ℕ, List, Some};
-ghost use Rattle.std.specs.Option.{option_map};
+ghost use Rattle.std.specs.Option.{option_map, option_or};
+ghost use Rattle.frames.specs.declared.met.Met.TheVariants as met;
+ghost use Rattle.frames.specs.Views.{around_in};
+ghost use Rattle.meaning.specs.Frames.{bound};
+ghost use Rattle.meaning.specs.Things.{name};
 ghost use Rattle.drawers.specs.Shown.{shows};
 ghost use Rattle.evaluation.specs.Values.{Found, Reached, Evaluated, NumberFound};
 ghost use Rattle.frames.specs.Items.{item_of};
 ghost use Rattle.held.specs.Records.{held_in};
-ghost use Rattle.held.specs.Scenes.{host_in};
-ghost use Rattle.meaning.specs.Looking.{number_of};
+ghost use Rattle.held.specs.Scenes.{host_in, Fits};
+ghost use Rattle.meaning.specs.Looking.{World, outside as outside_of, number_of};
 
 use crate::names::{outside, part_in};
 use crate::steps::walk;
 use drawers::things::Drawers;
 use frames::item::Item;
-use frames::met::Met;
+use frames::met::{Loop, Met};
 use frames::stack::Frames;
 use held::faults::Fault;
 use held::records::record_value;
@@ -34,24 +38,51 @@ fn item_value<'a>(scene: Scene<'a>, item: Item) -> Value<&'a [u8]>
     }
 }
 
-// What a path begins at: a loop object, or a name, which the innermost frame that binds it decides, else what it means outside the frames.
+// What a name means: the innermost frame that binds it decides, else what it means outside the frames.
+fn named<'a>(
+    scene: Scene<'a>,
+    frames: &Frames,
+    drawers: &'a Drawers,
+    n: usize,
+) -> Option<Value<&'a [u8]>>
+    ensures { (w : World) → Fits w scene.entry → option_map held_in result ≡ option_or (bound (around_in (host_in scene.entry) frames.now) n) (outside_of w n (shows drawers.now (name n))) }
+{
+    match frames.bound(n) {
+        Some(item) => Some(item_value(scene, item)),
+        None => outside(scene, drawers, n),
+    }
+}
+
+fn looped<'a>(of: Option<Loop>) -> Option<Met<'a>>
+    ensures { result ≡ option_map met.Loop of }
+{
+    Some(Met::Loop(of?))
+}
+
+fn valued<'a>(value: Option<Value<&'a [u8]>>) -> Option<Met<'a>>
+    ensures { result ≡ option_map met.Value value.entry }
+{
+    Some(Met::Value(value?))
+}
+
+// What a path begins at: a loop object, or a name.
 fn find<'a>(scene: Scene<'a>, frames: &Frames, drawers: &'a Drawers, head: Head) -> Option<Met<'a>>
     ensures { Found scene.entry frames.now (shows drawers.now) head result }
 {
     match head {
-        Head::Forloop => Some(Met::Loop(frames.nearest_for()?)),
-        Head::Tablerowloop => Some(Met::Loop(frames.nearest_table()?)),
-        Head::Name(n) => {
-            if let Some(item) = frames.bound(n) {
-                return Some(Met::Value(item_value(scene, item)));
-            }
-            Some(Met::Value(outside(scene, drawers, n)?))
-        }
+        Head::Forloop => looped(frames.nearest_for()),
+        Head::Tablerowloop => looped(frames.nearest_table()),
+        Head::Name(n) => valued(named(scene, frames, drawers, n)),
     }
 }
 
 /// What a value comes to, if it is there.
-pub fn reach<'a>(scene: Scene<'a>, frames: &Frames, drawers: &'a Drawers, value: Expr) -> Option<Met<'a>>
+pub fn reach<'a>(
+    scene: Scene<'a>,
+    frames: &Frames,
+    drawers: &'a Drawers,
+    value: Expr,
+) -> Option<Met<'a>>
     ensures { Reached scene.entry frames.now (shows drawers.now) value result }
 {
     match value {
@@ -67,7 +98,12 @@ pub fn reach<'a>(scene: Scene<'a>, frames: &Frames, drawers: &'a Drawers, value:
 }
 
 /// What a value comes to; an absent value is a fault, and so is a loop object itself.
-pub fn eval<'a>(scene: Scene<'a>, frames: &Frames, drawers: &'a Drawers, value: Expr) -> Result<Value<&'a [u8]>, Fault>
+pub fn eval<'a>(
+    scene: Scene<'a>,
+    frames: &Frames,
+    drawers: &'a Drawers,
+    value: Expr,
+) -> Result<Value<&'a [u8]>, Fault>
     ensures { Evaluated scene.entry frames.now (shows drawers.now) value result }
 {
     match reach(scene, frames, drawers, value) {

@@ -1,13 +1,11 @@
 // Steps into what a path has come to.
-ghost use Rattle.std.specs.Prelude.{◌≡◌, List, Some};
+ghost use Rattle.std.specs.Prelude.{◌≡◌, Some, map};
 ghost use Rattle.std.specs.Option.{option_map};
 ghost use Rattle.frames.specs.Views.{around_in, met_of};
 ghost use Rattle.held.specs.Records.{step_into};
 ghost use Rattle.held.specs.Scenes.{Fits, host_in};
-ghost use Rattle.nodes.specs.Books.{pool_in};
-ghost use Rattle.nodes.specs.Exprs.{step_of, each};
 ghost use Rattle.meaning.specs.Looking.{World, met_step, walked};
-ghost use Rattle.tree.specs.Expressions as tree;
+ghost use Rattle.evaluation.specs.Steps.{step_in};
 
 use crate::names::part_in;
 use frames::met::Met;
@@ -20,7 +18,7 @@ use values::steps::Step as Into;
 
 // A step with the bytes of its key.
 fn spelled<'a>(book: Book<'a>, step: Step) -> Into<'a>
-    ensures { (t : tree.Step) → step_of (pool_in book.entry) step ≡ Some t → step_into result ≡ t }
+    ensures { step_into result ≡ step_in book.entry.source.now step }
 {
     match step {
         Step::Index(n) => Into::Number(n),
@@ -42,8 +40,13 @@ fn step_from<'a>(scene: Scene<'a>, frames: &Frames, met: Met<'a>, step: Into) ->
 }
 
 /// What the steps from there come to.
-pub(crate) fn walk<'a>(scene: Scene<'a>, frames: &Frames, from: Met<'a>, steps: &[Step]) -> Option<Met<'a>>
-    ensures { (w : World) (ts : List tree.Step) → Fits w scene.entry → each (step_of (pool_in scene.entry.book)) steps.now ≡ Some ts → walked w (Some (met_of (around_in (host_in scene.entry) frames.now) from.entry)) ts ≡ option_map (met_of (around_in (host_in scene.entry) frames.now)) result }
+pub(crate) fn walk<'a>(
+    scene: Scene<'a>,
+    frames: &Frames,
+    from: Met<'a>,
+    steps: &[Step],
+) -> Option<Met<'a>>
+    ensures { (w : World) → Fits w scene.entry → walked w (Some (met_of (around_in (host_in scene.entry) frames.now) from.entry)) (map (step_in scene.entry.book.source.now) steps.now) ≡ option_map (met_of (around_in (host_in scene.entry) frames.now)) result }
 {
     let mut met = from;
     let mut left = steps;
