@@ -1,0 +1,46 @@
+use Rattle.std.proofs.Common.{◌≡◌, ap, sym, ◌∙◌, subst, map, Some, None}
+use Rattle.std.specs.Option.{option_map}
+use Rattle.nodes.specs.declared.exprs.Expr.{Expr}
+use Rattle.nodes.specs.declared.exprs.Expr.TheVariants.{Path}
+use Rattle.frames.specs.declared.met.Met.{Met}
+use Rattle.frames.specs.Views.{around_in, met_of}
+use Rattle.drawers.specs.Shown.{shows}
+use Rattle.held.specs.Scenes.{host_in}
+use Rattle.meaning.specs.Looking.{walked}
+use Rattle.evaluation.specs.Steps.{step_in}
+use Rattle.evaluation.specs.Values.{Found, Reached}
+use Rattle.evaluation.proofs.Founds.{reached_nil, reached_boolean, reached_number, reached_text, reached_path}
+use Rattle.evaluation.proofs.Walking.{walked_nowhere}
+use Rattle.evaluation.proofs.looking.reach.Goals as goal
+
+pub returns-in-Nil : goal.returns-in-Nil
+returns-in-Nil c =
+    subst (λ x. Reached c.args.scene c.args.frames.now (shows c.args.drawers.now) x _) (sym c.in-Nil.is) (reached_nil c.args.scene c.args.frames.now (shows c.args.drawers.now))
+
+pub returns-in-Boolean : goal.returns-in-Boolean
+returns-in-Boolean c =
+    subst (λ x. Reached c.args.scene c.args.frames.now (shows c.args.drawers.now) x _) (sym c.in-Boolean.is) (reached_boolean c.args.scene c.args.frames.now (shows c.args.drawers.now) c.in-Boolean.b)
+
+pub returns-in-Number : goal.returns-in-Number
+returns-in-Number c =
+    subst (λ x. Reached c.args.scene c.args.frames.now (shows c.args.drawers.now) x _) (sym c.in-Number.is) (reached_number c.args.scene c.args.frames.now (shows c.args.drawers.now) c.in-Number.n)
+
+pub returns-in-Text : goal.returns-in-Text
+returns-in-Text c =
+    subst (λ x. Reached c.args.scene c.args.frames.now (shows c.args.drawers.now) x _) (sym c.in-Text.is) (reached_text c.args.scene c.args.frames.now (shows c.args.drawers.now) c.in-Text.part c.part_in.result c.part_in.ensures)
+
+pub returns-in_err-met-in-Path : goal.returns-in_err-met-in-Path
+returns-in_err-met-in-Path c =
+    let s = c.args.scene in
+    let e = around_in (host_in s) c.args.frames.now in
+    let found : Found s c.args.frames.now (shows c.args.drawers.now) c.in-Path.head None = subst (λ m. Found s c.args.frames.now (shows c.args.drawers.now) c.in-Path.head m) c.in_err-met-in-Path.was c.find.ensures in
+    subst (λ x. Reached s c.args.frames.now (shows c.args.drawers.now) x c.from_residual.result) (sym c.in-Path.is)
+    (reached_path s c.args.frames.now (shows c.args.drawers.now) c.in-Path.head c.in-Path.steps None c.from_residual.result _ found Rattle.std.proofs.Common.refl
+    (λ w fits. walked_nowhere w (step_in s.book.source.now) _ ∙ sym (ap (option_map (met_of e)) c.from_residual.ensures)))
+
+pub returns-in_ok-met-in-Path : goal.returns-in_ok-met-in-Path
+returns-in_ok-met-in-Path c =
+    let s = c.args.scene in
+    let found : Found s c.args.frames.now (shows c.args.drawers.now) c.in-Path.head (Some c.in_ok-met-in-Path.met) = subst (λ m. Found s c.args.frames.now (shows c.args.drawers.now) c.in-Path.head m) c.in_ok-met-in-Path.was c.find.ensures in
+    subst (λ x. Reached s c.args.frames.now (shows c.args.drawers.now) x c.walk.result) (sym c.in-Path.is)
+    (reached_path s c.args.frames.now (shows c.args.drawers.now) c.in-Path.head c.in-Path.steps (Some c.in_ok-met-in-Path.met) c.walk.result c.entries.result.now found c.entries.ensures c.walk.ensures)
