@@ -10,7 +10,7 @@ use held::faults::Fault;
 use itoa::Buffer;
 
 // What stands behind the number of a row or a cell.
-const CLOSE: &[u8; 2] = b"\">";
+const CLOSE: &[u8] = b"\">";
 
 // Writes a mark that begins so, whole or not at all.
 fn write_mark(start: &[u8], number: usize, out: &mut [u8], filled: usize) -> Result<usize, Fault>
