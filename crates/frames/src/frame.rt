@@ -1,8 +1,9 @@
 // Visits that are under way.
-ghost use Rattle.std.specs.Prelude.{◌≡◌, ◌-◌, Option, Some, cond, drop, length};
+ghost use Rattle.std.specs.Prelude.{◌≡◌, ◌-◌, ◌≤◌, ℕ, List, Option, Some, cond, drop, length, take};
 ghost use Rattle.std.specs.Option.{option_map, option_or};
 ghost use Rattle.meaning.specs.Things.{Held};
 ghost use Rattle.meaning.specs.Frames.{Frames, LoopObject, binding, for_at, table_at};
+ghost use Rattle.frames.specs.Cuts.{trimmed};
 ghost use Rattle.frames.specs.Views.{manner_of, loop_of};
 
 use crate::item::{AnyRow, Item};
@@ -45,6 +46,17 @@ pub struct Frame {
 }
 
 impl Frame {
+    /// How many of the bytes that are written stay where the block is left by a fault.
+    pub(crate) fn trimmed(&self, filled: usize) -> usize
+        ensures within { result ≤ filled }
+        ensures cut { (out : List ℕ) → filled ≤ length out → take result out ≡ trimmed self.now.manner self.now.mark (take filled out) }
+    {
+        match self.manner {
+            Manner::Keeping(_) | Manner::Watching => self.mark.min(filled),
+            Manner::Once | Manner::Each { .. } | Manner::Cells { .. } => filled,
+        }
+    }
+
     // The index of the visit, from 0.
     fn index(&self) -> u16
         ensures { result ≡ self.now.visit - 1 }

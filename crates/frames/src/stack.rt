@@ -1,6 +1,7 @@
 // The frame table.
 ghost use Rattle.std.specs.Prelude.{◌≤◌};
 
+mod cut;
 mod looking;
 
 use crate::frame::{Frame, Manner};
