@@ -1,5 +1,5 @@
 -- The trail of a fault, in the code's records.
-use Rattle.std.specs.Prelude.{ℕ, List, [], ◌∷◌, ◌++◌, map, take, replicate}
+use Rattle.std.specs.Prelude.{ℕ, List, ◌++◌, map, take, replicate}
 use Rattle.frames.specs.declared.frame.Manner as code_manner
 use Rattle.frames.specs.declared.frame.Manner.TheVariants.{Once, Each, Cells, Keeping, Watching}
 use Rattle.frames.specs.declared.frame.Frame as code_frame

@@ -4,6 +4,7 @@ ghost use Rattle.std.specs.Option.{option_map, option_or};
 ghost use Rattle.meaning.specs.Things.{Held};
 ghost use Rattle.meaning.specs.Frames.{Frames, LoopObject, binding, for_at, table_at};
 ghost use Rattle.frames.specs.Cuts.{trimmed};
+ghost use Rattle.frames.specs.Trails.{record_for};
 ghost use Rattle.frames.specs.Views.{manner_of, loop_of};
 
 use crate::item::{AnyRow, Item};
@@ -54,6 +55,20 @@ impl Frame {
         match self.manner {
             Manner::Keeping(_) | Manner::Watching => self.mark.min(filled),
             Manner::Once | Manner::Each { .. } | Manner::Cells { .. } => filled,
+        }
+    }
+
+    /// Its record in the trail of a fault; only the visits of loops are counted.
+    pub(crate) fn trail_record(&self) -> TrailRecord
+        ensures { result ≡ record_for self.now }
+    {
+        let visit = match self.manner {
+            Manner::Each { .. } | Manner::Cells { .. } => self.visit,
+            Manner::Once | Manner::Keeping(_) | Manner::Watching => 0,
+        };
+        TrailRecord::Stands {
+            place: self.place,
+            visit,
         }
     }
 

@@ -3,6 +3,7 @@ ghost use Rattle.std.specs.Prelude.{◌≤◌};
 
 mod cut;
 mod looking;
+mod trailing;
 
 use crate::frame::{Frame, Manner};
 use crate::item::{AnyRow, Item};
