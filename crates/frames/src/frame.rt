@@ -72,8 +72,8 @@ impl Frame {
         }
     }
 
-    // The index of the visit, from 0.
-    fn index(&self) -> u16
+    /// The index of the visit, from 0.
+    pub fn index(&self) -> u16
         ensures { result ≡ self.now.visit - 1 }
     {
         self.visit.saturating_sub(1)

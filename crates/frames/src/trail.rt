@@ -14,8 +14,7 @@ fn record_at(open: &[Frame], k: usize) -> TrailRecord
     ensures { result ≡ get_or (map record_for (reverse open.now)) k TrailRecord.Blank }
 {
     if k < open.len() {
-        let frame = open[open.len() - 1 - k];
-        frame.trail_record()
+        open[open.len() - 1 - k].trail_record()
     } else {
         TrailRecord::Blank
     }

@@ -16,7 +16,7 @@ impl Frames {
         let mut k = self.depth;
         while k > 0 {
             k -= 1;
-            let frame = self.table[k];
+            let frame = &self.table[k];
             left = frame.trimmed(left);
         }
         left
