@@ -16,6 +16,6 @@ impl Frames {
         ensures means { 16 ≤ length trail.old → (h : Host) → map trail_record_of trail.new ≡ sixteen (trail_of (around_in h self.now)) ++ map trail_record_of (drop 16 trail.old) }
         ensures short { length trail.old < 16 → trail.new ≡ trail.old }
     {
-        write_records(&self.table[..self.depth], trail);
+        write_records(self.open_frames(), trail);
     }
 }
