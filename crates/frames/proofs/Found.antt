@@ -1,11 +1,10 @@
 -- The fields of loop objects, in the definition's values.
-use Rattle.std.proofs.Common.{◌≡◌, ℕ, ◌+◌, ◌-◌, Bool, true, false, cond, List, ℤ, Some, None, codes, Option, ◌==◌, refl, ap, ◌∙◌}
+use Rattle.std.proofs.Common.{◌≡◌, ℕ, Bool, true, false, cond, List, ℤ, Some, None, Option, refl}
 use Rattle.std.specs.Option.{option_map, option_or}
-use Rattle.tray.specs.Parts.{same_text}
 use Rattle.frames.specs.declared.met.Met as code_met
 use Rattle.frames.specs.Views.{met_of}
-use Rattle.frames.specs.Fields.{number, truth, common_met, table_met}
-use Rattle.meaning.specs.Frames.{Frames, Met, common_field, field, of_table, column, row_number, is_last, is_col_first, is_col_last, a_number, a_truth}
+use Rattle.frames.specs.Fields.{common_met, table_met}
+use Rattle.meaning.specs.Frames.{Frames, Met, common_field, field, of_table}
 
 module _ (fs : Frames) where
   -- what the code found, else what the definition goes on with

@@ -1,4 +1,5 @@
 pub mod Opened
 pub mod Looking
 pub mod Found
+pub mod Trails
 pub mod Shown

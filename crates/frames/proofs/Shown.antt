@@ -1,5 +1,5 @@
 -- A window shows no more items than its row has.
-use Rattle.std.proofs.Common.{◌≡◌, ◌≤◌, Bool, List, length, ℤ, Some, None, Option, refl, arith}
+use Rattle.std.proofs.Common.{◌≤◌, Bool, List, length, ℤ, Some, None, Option, refl, arith}
 use Rattle.rows.specs.Spans.{start_of, end_of}
 use Rattle.rows.specs.Windows.{windowed}
 use Rattle.rows.proofs.Segments.{window_length}

@@ -1,5 +1,5 @@
 -- What items and rows stand for.
-use Rattle.std.specs.Prelude.{ℕ, List, [], ◌∷◌, map}
+use Rattle.std.specs.Prelude.{List, [], ◌∷◌, map}
 use Rattle.rows.specs.Counted as counted
 use Rattle.values.specs.RowsOf.{stepping}
 use Rattle.frames.specs.declared.item.Item.{Item}

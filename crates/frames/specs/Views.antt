@@ -1,5 +1,5 @@
 -- What the frame table stands for.
-use Rattle.std.specs.Prelude.{ℕ, ◌-◌, List, map, reverse, take, drop, length}
+use Rattle.std.specs.Prelude.{◌-◌, List, map, reverse, take, drop, length}
 use Rattle.held.specs.Value.{held_by}
 use Rattle.frames.specs.declared.frame.Manner as code_manner
 use Rattle.frames.specs.declared.frame.Manner.TheVariants.{Once, Each, Cells, Keeping, Watching}

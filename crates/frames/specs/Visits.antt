@@ -1,5 +1,5 @@
 -- The changes of the open frames.
-use Rattle.std.specs.Prelude.{ℕ, ◌+◌, Bool, false, List, [], ◌∷◌, nat_lt, cond}
+use Rattle.std.specs.Prelude.{◌+◌, Bool, false, List, [], ◌∷◌, nat_lt, cond}
 use Rattle.frames.specs.declared.item.Item.{Item}
 use Rattle.frames.specs.declared.frame.Frame.{Frame}
 

@@ -1,8 +1,10 @@
 // Visits that are under way.
-ghost use Rattle.std.specs.Prelude.{◌≡◌, ◌-◌, Option, Some, cond, drop, length};
+ghost use Rattle.std.specs.Prelude.{◌≡◌, ◌-◌, ◌≤◌, ℕ, List, Option, Some, cond, drop, length, take};
 ghost use Rattle.std.specs.Option.{option_map, option_or};
 ghost use Rattle.meaning.specs.Things.{Held};
 ghost use Rattle.meaning.specs.Frames.{Frames, LoopObject, binding, for_at, table_at};
+ghost use Rattle.frames.specs.Cuts.{trimmed};
+ghost use Rattle.frames.specs.Trails.{record_for};
 ghost use Rattle.frames.specs.Views.{manner_of, loop_of};
 
 use crate::item::{AnyRow, Item};
@@ -45,8 +47,33 @@ pub struct Frame {
 }
 
 impl Frame {
-    // The index of the visit, from 0.
-    fn index(&self) -> u16
+    /// How many of the bytes that are written stay where the block is left by a fault.
+    pub(crate) fn trimmed(&self, filled: usize) -> usize
+        ensures within { result ≤ filled }
+        ensures cut { (out : List ℕ) → filled ≤ length out → take result out ≡ trimmed self.now.manner self.now.mark (take filled out) }
+    {
+        match self.manner {
+            Manner::Keeping(_) | Manner::Watching => self.mark.min(filled),
+            Manner::Once | Manner::Each { .. } | Manner::Cells { .. } => filled,
+        }
+    }
+
+    /// Its record in the trail of a fault; only the visits of loops are counted.
+    pub(crate) fn trail_record(&self) -> TrailRecord
+        ensures { result ≡ record_for self.now }
+    {
+        let visit = match self.manner {
+            Manner::Each { .. } | Manner::Cells { .. } => self.visit,
+            Manner::Once | Manner::Keeping(_) | Manner::Watching => 0,
+        };
+        TrailRecord::Stands {
+            place: self.place,
+            visit,
+        }
+    }
+
+    /// The index of the visit, from 0.
+    pub fn index(&self) -> u16
         ensures { result ≡ self.now.visit - 1 }
     {
         self.visit.saturating_sub(1)

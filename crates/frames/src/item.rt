@@ -18,8 +18,8 @@ pub enum Item {
     Whole(i64),
 }
 
-/// What a loop may go over: the items of an array, the pairs of an object, numbers, or the key and the value of a pair, by the numbers of their records.
-/// A block that is no loop goes over nil, once.
+/// What a loop may go over: the items of an array, the pairs of an object, numbers,
+/// or the key and the value of a pair, by the numbers of their records. A block that is no loop goes over nil, once.
 #[derive(Clone, Copy)]
 pub enum AnyRow {
     Once,
@@ -35,13 +35,7 @@ impl Row for AnyRow {
     ghost items = { items_in };
 
     fn count(&self) -> usize {
-        match self {
-            AnyRow::Once => 1,
-            AnyRow::Items(items) => items.count(),
-            AnyRow::Pairs(pairs) => pairs.count(),
-            AnyRow::Numbers(numbers) => numbers.count(),
-            AnyRow::Pair { .. } => 2,
-        }
+        usize::from(self.size())
     }
 
     fn item(&self, k: usize) -> Option<Item> {
@@ -60,7 +54,7 @@ impl Row for AnyRow {
 }
 
 impl AnyRow {
-    // As `count`, and that it is a 16-bit number.
+    // How many items it has: a 16-bit number counts those of any row.
     fn size(self) -> u16
         ensures { result ≡ length (items_in self) }
     {
@@ -83,7 +77,7 @@ impl AnyRow {
         ensures made { (result.0.row ≡ self) × (result.0.offset ≡ unwrap_or offset (pos 0)) × (result.0.limit ≡ limit) × (result.0.reversed ≡ reversed) }
         ensures times { result.1 ≡ length (windowed (unwrap_or offset (pos 0)) limit reversed (items_in self)) }
     {
-        // For what it says: the row has no more items than a 16-bit number counts, and so has the window.
+        // For its bound: a window has no more items than its row.
         let _most = self.size();
         let window = Window::new(self, offset, limit, reversed);
         let times = window.count() as u16;

@@ -8,3 +8,4 @@ pub mod frame;
 pub mod item;
 pub mod met;
 pub mod stack;
+pub mod trail;

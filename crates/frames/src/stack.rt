@@ -1,7 +1,9 @@
 // The frame table.
 ghost use Rattle.std.specs.Prelude.{◌≤◌};
 
+mod cut;
 mod looking;
+mod trails;
 
 use crate::frame::{Frame, Manner};
 use crate::item::{AnyRow, Item};
@@ -16,7 +18,7 @@ pub struct Frames {
 }
 
 impl Frames {
-    ghost use Rattle.std.specs.Prelude.{◌≡◌, ◌<◌, [], ◌∷◌, drop, length};
+    ghost use Rattle.std.specs.Prelude.{◌≡◌, ◌<◌, [], ◌∷◌, drop, length, take};
     ghost use Rattle.std.specs.List.{slice_get};
     ghost use Rattle.frames.specs.Views.{open_in};
     ghost use Rattle.frames.specs.Visits.{next_visited, goes_on};
@@ -44,19 +46,25 @@ impl Frames {
         }
     }
 
+    // The outermost first.
+    fn open_frames(&self) -> &[Frame]
+        ensures { result.now ≡ take self.now.depth self.now.table }
+    {
+        &self.table[..self.depth]
+    }
+
     /// How many frames are open.
     pub fn depth(&self) -> usize
         ensures { result ≡ length (open_in self.now) }
     {
-        self.depth
+        self.open_frames().len()
     }
 
     /// The innermost open frame.
     pub fn top(&self) -> Option<Frame>
         ensures { result ≡ slice_get (open_in self.now) 0 }
     {
-        let last = self.depth.checked_sub(1)?;
-        Some(self.table[last])
+        self.open_frames().last().copied()
     }
 
     /// Opens a frame inside the others, where fewer than sixteen are open.

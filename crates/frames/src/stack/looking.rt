@@ -22,7 +22,7 @@ impl Frames {
         let mut k = self.depth;
         while k > 0 {
             k -= 1;
-            let frame = self.table[k];
+            let frame = &self.table[k];
             if frame.binds(name) {
                 return Some(frame.item);
             }
@@ -37,7 +37,7 @@ impl Frames {
         let mut k = self.depth.min(around);
         while k > 0 {
             k -= 1;
-            let frame = self.table[k];
+            let frame = &self.table[k];
             if let Some(object) = frame.for_object(k) {
                 return Some(object);
             }
@@ -59,7 +59,7 @@ impl Frames {
         let mut k = self.depth;
         while k > 0 {
             k -= 1;
-            let frame = self.table[k];
+            let frame = &self.table[k];
             if let Some(object) = frame.table_object() {
                 return Some(object);
             }

@@ -1,4 +1,4 @@
-use Rattle.std.proofs.Common.{rules, ◌≡◌, length, ℕ, ◌<◌, ◌≤◌, arith, Fits, w16}
+use Rattle.std.proofs.Common.{rules, arith, Fits, w16}
 use Rattle.frames.specs.Items.{items_in}
 use Rattle.frames.proofs.Shown.{window_within}
 use Rattle.frames.proofs.item.AnyRow.shown.Goals as goal

@@ -1,10 +1,6 @@
-use Rattle.std.proofs.Common.{rules, ◌≡◌, length, ℕ, ◌<◌, ◌≤◌, map, arith, Fits, w16}
-use Rattle.std.proofs.lemmas.List.{length-map}
-use Rattle.values.specs.RowsOf.{stepping}
+use Rattle.std.proofs.Common.{rules, arith, Fits, w16}
 use Rattle.values.proofs.Listing.{length_stepping}
-use Rattle.rows.specs.Counted.{held}
 use Rattle.rows.proofs.Countings.{held_length}
-use Rattle.frames.specs.declared.item.Item.TheVariants as item
 use Rattle.frames.proofs.item.AnyRow.size.Goals as goal
 
 pub overflow_cast-result : goal.overflow_cast-result

@@ -1,4 +1,4 @@
-use Rattle.std.proofs.Common.{w64, SFits, rules, arith, ap, sym, ◌∙◌}
+use Rattle.std.proofs.Common.{w64, SFits, rules, arith, ap}
 use Rattle.std.proofs.lemmas.Int.{to_z-of_z}
 use Rattle.meaning.specs.Frames.{field}
 use Rattle.frames.specs.Views.{around_in, loop_of}

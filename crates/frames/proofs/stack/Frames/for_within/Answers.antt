@@ -1,4 +1,4 @@
-use Rattle.std.proofs.Common.{◌≡◌, ◌-◌, ◌≤◌, ◌∙◌, sym, ap, length, drop, arith}
+use Rattle.std.proofs.Common.{◌-◌, ◌∙◌, sym, ap, length, drop, arith}
 use Rattle.std.specs.Option.{option_map, option_or}
 use Rattle.meaning.specs.Frames.{nearest_for}
 use Rattle.frames.specs.Views.{around_in, loop_of}

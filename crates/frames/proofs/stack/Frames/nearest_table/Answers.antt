@@ -1,8 +1,7 @@
-use Rattle.std.proofs.Common.{◌≡◌, ◌-◌, ◌≤◌, ◌∙◌, sym, ap, length, get_or, [], None, arith}
+use Rattle.std.proofs.Common.{◌-◌, ◌∙◌, sym, ap, [], arith}
 use Rattle.std.specs.Option.{option_map, option_or}
-use Rattle.meaning.specs.Hosts.{Host}
-use Rattle.meaning.specs.Frames.{nearest_table, table_at}
-use Rattle.frames.specs.Views.{frames_of, loop_of, manner_of}
+use Rattle.meaning.specs.Frames.{nearest_table}
+use Rattle.frames.specs.Views.{frames_of, loop_of}
 use Rattle.frames.proofs.Opened.{opened}
 use Rattle.frames.proofs.Looking.{table_last}
 use Rattle.frames.proofs.stack.Frames.nearest_table.Goals as goal
