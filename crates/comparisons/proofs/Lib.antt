@@ -1,0 +1,3 @@
+pub mod Orders
+pub mod Records
+pub mod Searches

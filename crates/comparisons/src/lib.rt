@@ -3,3 +3,10 @@
 #![tactic(auto)]
 
 pub mod compare;
+mod contains;
+mod forms;
+mod order;
+mod places;
+pub mod same;
+mod search;
+pub mod truth;
