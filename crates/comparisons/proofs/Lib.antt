@@ -1,3 +1,5 @@
+pub mod Among
+pub mod Holds
 pub mod Orders
 pub mod Records
 pub mod Searches

@@ -1,12 +1,12 @@
 -- The value of a record that was read.
-use Rattle.std.proofs.Common.{◌≡◌, ℕ, ◌-◌, ◌^◌, ◌<◌, ◌≤◌, List, length, vec_items, min, sym, ap, ◌∙◌, ⊎_elim, arith}
+use Rattle.std.proofs.Common.{◌≡◌, ℕ, ◌≤◌, length, vec_items, min, sym, ap, ◌∙◌, ⊎_elim, arith}
 use Rattle.std.proofs.lemmas.List.{get_or_past}
 use Rattle.std.proofs.lemmas.Bool.{cases_lt}
 use Rattle.tray.specs.declared.records.Record.{Record}
 use Rattle.tray.specs.declared.records.Record.TheVariants.{Nil}
 use Rattle.tray.specs.declared.trays.Tray.{Tray}
 use Rattle.tray.specs.Sound.{at}
-use Rattle.values.specs.Value.{Value, nil}
+use Rattle.values.specs.Value.{nil}
 use Rattle.values.specs.Meaning.{shape, key_at, value_of}
 use Rattle.values.proofs.Unfolds.{stands}
 

@@ -1,7 +1,8 @@
 -- A text sought in another, place by place.
-use Rattle.std.proofs.Common.{◌≡◌, ℕ, ◌+◌, ◌<◌, ◌≤◌, eqb, Bool, true, false, ◌&&◌, ◌||◌, List, [], ◌∷◌, length, get_or, drop, sym, refl, ap, ◌∙◌, arith, drop-cons}
+use Rattle.std.proofs.Common.{◌≡◌, ℕ, suc, nat_eq, add-one, ◌+◌, ◌<◌, ◌≤◌, eqb, Bool, true, false, ◌&&◌, ◌||◌, List, [], ◌∷◌, length, get_or, drop, sym, refl, ap, ◌∙◌, arith, drop-cons}
 use Rattle.std.specs.List.{starts_with}
 use Rattle.std.proofs.lemmas.List.{at_drop_all}
+use Rattle.std.proofs.lemmas.Bool.Decides.{nat_tests}
 use Rattle.meaning.specs.Tests.{begins, stands_in}
 
 pub starts_begins : (s t : List ℕ) → starts_with eqb t s ≡ begins s t
@@ -11,7 +12,7 @@ starts_begins (x ∷ xs) (y ∷ ys) = ap (λ b. eqb x y && b) (starts_begins xs 
 
 -- at place i, or behind it
 stand_more : (s t : List ℕ) (i : ℕ) → i < length t → stands_in s (drop i t) ≡ (begins s (drop i t) || stands_in s (drop (i + 1) t))
-stand_more s t i l = let e : drop i t ≡ get_or t i 0 ∷ drop (i + 1) t = drop-cons t i 0 l in rw e refl
+stand_more s t i l = let e : drop i t ≡ get_or t i 0 ∷ drop (suc i) t = drop-cons t i 0 l in rw (add-one, e) refl
 
 -- it does not begin before place i
 pub record Seeks (s t : List ℕ) (i : ℕ) : Type 0 where
@@ -26,3 +27,7 @@ module _ {s t : List ℕ} {i : ℕ} where
 
   pub seek_all : Seeks s t i → length t ≤ i → stands_in s t ≡ begins s []
   seek_all h l = h.is ∙ at_drop_all (stands_in s) t i l
+
+pub empty_begins : (s : List ℕ) → nat_eq (length s) 0 ≡ begins s []
+empty_begins [] = refl
+empty_begins (x ∷ xs) = grind (arith, nat_tests)

@@ -1,5 +1,5 @@
 //! Whether a value has another in it.
-ghost use Rattle.std.specs.Prelude.{◌≡◌};
+ghost use Rattle.std.specs.Prelude.{◌≡◌, ◌<◌, length, MatchOption};
 ghost use Rattle.numerals.specs.Decimal.{whole_text};
 ghost use Rattle.values.specs.Value.{written};
 ghost use Rattle.values.specs.Meaning.{value_of};
@@ -9,7 +9,7 @@ ghost use Rattle.held.specs.Value.{held_by};
 ghost use Rattle.meaning.specs.Things.{Held, whole as number};
 ghost use Rattle.meaning.specs.Looking.{World, text_of};
 ghost use Rattle.meaning.specs.Tests.{stands_in, in_text, holding};
-ghost use Rattle.comparisons.specs.Ends.{Ends, sought_in};
+ghost use Rattle.comparisons.specs.Ends.{Ends, FrontIs, sought_in};
 
 use crate::forms::Items;
 use crate::places::{boolean_text, in_items, in_keys, lay_number};
@@ -36,14 +36,22 @@ fn record_in(tray: &Tray, i: usize, text: &[u8]) -> Result<bool, Fault>
     Ok(stands_in(&room[..end], text))
 }
 
-// Whether the text of a pair does: that of its key, and then that of its value.
+// Lays the text of a pair at the front of a buffer, that of its key and then that of its value, and answers its length;
+// nothing where the buffer is shorter.
+fn lay_pair(tray: &Tray, i: usize, out: &mut [u8]) -> Option<usize>
+    ensures { MatchOption result (length out.old < length (written (pair_value tray.now i))) (λ end. FrontIs (written (pair_value tray.now i)) out.new end) }
+{
+    let key = write_text(tray, i, out)?;
+    let value = write_text(tray, Items::pair(i).item(tray, 1), &mut out[key..])?;
+    Some(key + value)
+}
+
+// Whether the text of a pair does.
 fn pair_in(tray: &Tray, i: usize, text: &[u8]) -> Result<bool, Fault>
     ensures { result ≡ sought_in (written (pair_value tray.now i)) text.now }
 {
     let mut room = [0; 256];
-    let key = write_text(tray, i, &mut room).ok_or(Fault::TooLong)?;
-    let value = Items::pair(i).item(tray, 1);
-    let end = key + write_text(tray, value, &mut room[key..]).ok_or(Fault::TooLong)?;
+    let end = lay_pair(tray, i, &mut room).ok_or(Fault::TooLong)?;
     Ok(stands_in(&room[..end], text))
 }
 
