@@ -70,8 +70,7 @@ pub(crate) fn form_of<'a>(tray: &Tray<'a>, value: Value<&'a [u8]>) -> Form<'a>
         Value::Boolean(b) => Form::Boolean(b),
         Value::Whole(n) => Form::Whole(n),
         Value::Text(t) => Form::Text(t),
-        Value::Array(i) => record_form(tray, i),
-        Value::Object(i) => record_form(tray, i),
+        Value::Array(i) | Value::Object(i) => record_form(tray, i),
         Value::Pair(i) => Form::Array(Items::pair(i)),
     }
 }

@@ -5,8 +5,9 @@
 pub mod compare;
 mod contains;
 mod forms;
+mod members;
 mod order;
-mod places;
+mod plain;
 pub mod same;
 mod search;
 pub mod truth;

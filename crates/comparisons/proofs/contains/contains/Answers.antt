@@ -1,4 +1,4 @@
-use Rattle.std.proofs.Common.{refl, sym, subst, w64, SFits, rules}
+use Rattle.std.proofs.Common.{⊎_elim, refl, sym, subst, w64, SFits, rules}
 use Rattle.std.proofs.lemmas.Int.{to_z-of_z}
 use Rattle.held.specs.Value.{held_by}
 use Rattle.meaning.specs.Things.{boolean, whole, text}
@@ -22,10 +22,8 @@ pub returns-in-Text : goal.returns-in-Text
 returns-in-Text c = λ w h. rw c.in-Text.is (c.in_text-in-Text.ensures w h (text c.in-Text.t.now) refl)
 
 pub returns-in-Array : goal.returns-in-Array
-returns-in-Array c = λ w h. rw c.in-Array.is (gives_ends _ _ (rw c.in-Array.is at c.in_items.ensures w h))
+returns-in-Array c =
+    λ w h. ⊎_elim (λ q. rw q.1 (gives_ends _ _ (rw q.1 at c.in_items.ensures w h))) (λ q. rw q.1 (gives_ends _ _ (rw q.1 at c.in_items.ensures w h))) c.in-Array.is
 
 pub returns-in-Object : goal.returns-in-Object
 returns-in-Object c = λ w h. rw c.in-Object.is (gives_ends _ _ (c.in_keys.ensures w h))
-
-pub returns-in-Pair : goal.returns-in-Pair
-returns-in-Pair c = λ w h. rw c.in-Pair.is (gives_ends _ _ (rw c.in-Pair.is at c.in_items-in-Pair.ensures w h))

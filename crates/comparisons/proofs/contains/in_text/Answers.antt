@@ -24,10 +24,12 @@ pub returns-in-Text : goal.returns-in-Text
 returns-in-Text c = λ w h a x. rw c.in-Text.is (gives_ends _ _ (c.stands_in-in-Text.ensures ∙ ap (stands_in c.in-Text.t.now) (sym x)))
 
 pub returns-in-Array : goal.returns-in-Array
-returns-in-Array c = λ w h a x. rw c.in-Array.is (sought_ends _ _ _ (c.record_in.ensures ∙ ap₂ sought_in (ap (λ q. written (value_of q (array c.in-Array.i))) (sym h)) (sym x)))
+returns-in-Array c =
+    λ w h a x. rw c.in-Array.is (sought_ends _ _ _ (c.record_in.ensures ∙ ap₂ sought_in (ap (λ q. written (value_of q (array c.in-Array.i))) (sym h)) (sym x)))
 
 pub returns-in-Object : goal.returns-in-Object
-returns-in-Object c = λ w h a x. rw c.in-Object.is (sought_ends _ _ _ (c.record_in-in-Object.ensures ∙ ap₂ sought_in (ap (λ q. written (value_of q (object c.in-Object.i))) (sym h)) (sym x)))
+returns-in-Object c =
+    λ w h a x. rw c.in-Object.is (sought_ends _ _ _ (c.record_in-in-Object.ensures ∙ ap₂ sought_in (ap (λ q. written (value_of q (object c.in-Object.i))) (sym h)) (sym x)))
 
 pub returns-in-Pair : goal.returns-in-Pair
 returns-in-Pair c = λ w h a x. rw c.in-Pair.is (sought_ends _ _ _ (c.pair_in.ensures ∙ ap₂ sought_in (ap (λ q. written (value_of q (pair c.in-Pair.i))) (sym h)) (sym x)))

@@ -1,7 +1,6 @@
 //! A value sought among items, or as a key.
-ghost use Rattle.std.specs.Prelude.{◌≡◌, ◌≤◌, length, take};
+ghost use Rattle.std.specs.Prelude.{◌≡◌};
 ghost use Rattle.numerals.specs.Decimal.{whole_text};
-ghost use Rattle.values.specs.Value.{boolean, written};
 ghost use Rattle.values.specs.Meaning.{value_of, items_from};
 ghost use Rattle.held.specs.Scenes.{host_of};
 ghost use Rattle.held.specs.Value.{held_by};
@@ -11,25 +10,11 @@ ghost use Rattle.meaning.specs.Looking.{World};
 ghost use Rattle.meaning.specs.Tests.{among, has_key, in_items, in_keys};
 
 use crate::forms::{Form, Items, form_of};
+use crate::plain::{boolean_text, lay_number};
 use crate::same::same;
 use held::value::Value;
-use numerals::write_whole;
 use tray::trays::Tray;
 use values::finds::find;
-
-pub(crate) fn boolean_text(b: bool) -> &'static [u8]
-    ensures { result.now ≡ written (boolean b) }
-{
-    if b { b"true" } else { b"false" }
-}
-
-// Lays the text of a number at the front of a buffer that is long enough for each, and answers its length.
-pub(crate) fn lay_number(n: i64, room: &mut [u8; 20]) -> usize
-    ensures fits { result ≤ length room.new }
-    ensures text { take result room.new ≡ whole_text n }
-{
-    write_whole(n, room).unwrap()
-}
 
 // Whether one of the items equals the value.
 fn among(tray: &Tray, items: Items, sought: Value<&[u8]>) -> bool

@@ -5,7 +5,7 @@ use Rattle.held.specs.Value.{held_by}
 use Rattle.meaning.specs.Hosts.{value_of as tree_of}
 use Rattle.comparisons.proofs.Among.{seeking_none, seeking_here, seeking_more, seeking_all}
 use Rattle.comparisons.proofs.Holds.{around}
-use Rattle.comparisons.proofs.places.among.Goals as goal
+use Rattle.comparisons.proofs.members.among.Goals as goal
 
 pub loop-j-init : goal.loop-j-init
 loop-j-init c = seeking_none
