@@ -1,4 +1,5 @@
 pub mod Among
+pub mod Fronts
 pub mod Holds
 pub mod Orders
 pub mod Records

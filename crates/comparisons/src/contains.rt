@@ -24,6 +24,7 @@ use tray::trays::Tray;
 // How many bytes the text of an array, object or pair may have that is sought.
 const LONGEST: usize = 256;
 
+// Whether the text of a number stands in another.
 fn number_in(n: i64, text: &[u8]) -> bool
     ensures { result ≡ stands_in (whole_text n) text.now }
 {
@@ -51,7 +52,7 @@ fn lay_pair(tray: &Tray, i: usize, out: &mut [u8]) -> Option<usize>
     Some(key + value)
 }
 
-// Whether the text of a pair does.
+// Whether the text of the pair whose key is record i does.
 fn pair_in(tray: &Tray, i: usize, text: &[u8]) -> Result<bool, Fault>
     ensures { result ≡ sought_in (written (pair_value tray.now i)) text.now }
 {
@@ -75,6 +76,7 @@ fn in_text(tray: &Tray, text: &[u8], sought: Value<&[u8]>) -> Result<bool, Fault
     }
 }
 
+// Whether the text of a value stands in that of a number.
 fn in_number(tray: &Tray, n: i64, sought: Value<&[u8]>) -> Result<bool, Fault>
     ensures { (w : World) → w.host ≡ host_of tray.now → Ends (in_text w (number n) (held_by (λ t. t.now) sought.entry)) result }
 {

@@ -16,7 +16,7 @@ use held::value::Value;
 use tray::trays::Tray;
 use values::finds::find;
 
-// Whether one of the items equals the value.
+// Whether one of the items equals the value. Each is compared as what its record holds, of whatever kind that is.
 fn among(tray: &Tray, items: Items, sought: Value<&[u8]>) -> bool
     ensures { result ≡ among (tree_of (host_of tray.now) (held_by (λ t. t.now) sought.entry)) (items_from (value_of tray.now) items.first items.count) }
 {
@@ -48,6 +48,7 @@ fn has_key(tray: &Tray, i: usize, key: &[u8]) -> bool
     find(tray, i, key).is_some()
 }
 
+// Whether record i is an object that has the text of a number as a key.
 fn has_number(tray: &Tray, i: usize, n: i64) -> bool
     ensures { result ≡ has_key (whole_text n) (value_of tray.now i) }
 {

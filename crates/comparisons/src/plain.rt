@@ -6,6 +6,7 @@ ghost use Rattle.texts.specs.Written.{Laid};
 
 use numerals::write_whole;
 
+// The text of a boolean.
 pub(crate) fn boolean_text(b: bool) -> &'static [u8]
     ensures { result.now ≡ written (boolean b) }
 {
