@@ -1,0 +1,6 @@
+pub mod Among
+pub mod Fronts
+pub mod Holds
+pub mod Orders
+pub mod Records
+pub mod Searches

@@ -3,3 +3,11 @@
 #![tactic(auto)]
 
 pub mod compare;
+mod contains;
+mod forms;
+mod members;
+mod order;
+mod plain;
+pub mod same;
+mod search;
+pub mod truth;
