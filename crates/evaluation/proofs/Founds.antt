@@ -19,9 +19,10 @@ use Rattle.tree.specs.Expressions as tree
 use Rattle.meaning.specs.Things.{Drawers, Held, name, text}
 use Rattle.meaning.specs.Frames.{Frames, nearest_for, nearest_table, bound, value, loop}
 use Rattle.meaning.specs.Acts.{step, gives, still, look, ◌and_then◌, go_on, pure}
-use Rattle.meaning.specs.Looking.{World, find, outside, reach, walked, eval, needed, number_of}
-use Rattle.evaluation.specs.Values.{Found, Reached, Evaluated, NumberFound}
+use Rattle.meaning.specs.Looking.{World, find, outside, reach, walked, eval, number_of}
+use Rattle.evaluation.specs.Values.{needed, Found, Reached, Evaluated, NumberFound}
 use Rattle.evaluation.specs.Steps.{step_in}
+use Rattle.evaluation.specs.Literals.{literal_of}
 use Rattle.nodes.specs.Books.{spelled}
 use Rattle.nodes.specs.declared.exprs.Part.{Part}
 use Rattle.nodes.specs.declared.exprs.Span.{Span}
@@ -35,12 +36,6 @@ use Rattle.held.specs.declared.faults.Fault.TheVariants.{Absent, LoopObject, NoN
 use Rattle.held.specs.Faults.{ended}
 use Rattle.meaning.specs.Frames as met_
 use Rattle.meaning.specs.Openings.{whole_number}
-
--- what is made of what was met
-abbrev pub Asks : Option Met → Result (Value (Bor (List ℕ))) Fault → Type 0
-Asks None r = r ≡ Err Absent
-Asks (Some (met.Value v)) r = r ≡ Ok v
-Asks (Some (met.Loop l)) r = r ≡ Err LoopObject
 
 module _ (s : Scene) (fs : code.Frames) (d : Drawers) where
   abbrev e : Frames
@@ -90,26 +85,15 @@ module _ (s : Scene) (fs : code.Frames) (d : Drawers) where
           ap tree.key ((only_parts _ _ _ is).1) ∙ r
 
   -- a value that is no path is itself
-  pub reached_value : (x : Expr) (v : Value (Bor (List ℕ))) → ((w : World) (t : tree.Expr) (o : List ℕ) → expr_of (pool_of s) x ≡ Some t → reach w t e d o ≡ step d o (gives (Some (value (held_in v))))) → Reached s fs d x (Some (met.Value v))
-  reached_value x v h w t o fits given = h w t o given
-
-  pub reached_nil : Reached s fs d expr.Nil (Some (met.Value value_of.Nil))
+  pub reached_literal : (x : Expr) (v : Value (Bor (List ℕ))) → ((h : Head) (k : Span) → x ≡ expr.Path h k → ⊥) → held_in v ≡ literal_of s.book.source.now x → Reached s fs d x (Some (met.Value v))
   unfolding expr_of reach still
-  reached_nil w t o fits given = ap (λ t. reach w t e d o) (sym (some_is _ _ given))
-
-  pub reached_boolean : (b : Bool) → Reached s fs d (expr.Boolean b) (Some (met.Value (value_of.Boolean b)))
-  unfolding expr_of reach still
-  reached_boolean b w t o fits given = ap (λ t. reach w t e d o) (sym (some_is _ _ given))
-
-  pub reached_number : (z : ℤ) → Reached s fs d (expr.Number z) (Some (met.Value (value_of.Whole z)))
-  unfolding expr_of reach still
-  reached_number z w t o fits given = ap (λ t. reach w t e d o) (sym (some_is _ _ given))
-
-  pub reached_text : (p : Part) (b : Bor (List ℕ)) → b.now ≡ spelled s.book.source.now p → Reached s fs d (expr.Text p) (Some (met.Value (value_of.Text b)))
-  unfolding expr_of reach still
-  reached_text p b is w t o fits given =
+  reached_literal expr.Nil v n is w t o fits given = ap (λ t. reach w t e d o) (sym (some_is _ _ given)) ∙ ap (λ y. step d o (gives (Some (value y)))) (sym is)
+  reached_literal (expr.Boolean b) v n is w t o fits given = ap (λ t. reach w t e d o) (sym (some_is _ _ given)) ∙ ap (λ y. step d o (gives (Some (value y)))) (sym is)
+  reached_literal (expr.Number z) v n is w t o fits given = ap (λ t. reach w t e d o) (sym (some_is _ _ given)) ∙ ap (λ y. step d o (gives (Some (value y)))) (sym is)
+  reached_literal (expr.Text p) v n is w t o fits given =
       let (x, h, r) = mapped_parts _ _ _ given in
-      ap (λ t. reach w t e d o) (sym r) ∙ ap (λ y. step d o (gives (Some (value (text y))))) (sym ((only_parts _ _ _ h).1) ∙ sym is)
+      ap (λ t. reach w t e d o) (sym r) ∙ ap (λ y. step d o (gives (Some (value (text y))))) (sym ((only_parts _ _ _ h).1)) ∙ ap (λ y. step d o (gives (Some (value y)))) (sym is)
+  reached_literal (expr.Path h k) v n is w t o fits given = absurd (n h k refl)
 
   -- a path: what it begins at, and the steps from there
   path_is : (h : Head) (k : Span) (w : World) (t : tree.Expr) (o : List ℕ) → expr_of (pool_of s) (expr.Path h k) ≡ Some t →
@@ -136,12 +120,17 @@ module _ (s : Scene) (fs : code.Frames) (d : Drawers) where
       ap (λ t. reach w t e d o) q ∙ go w u us o (option_map (met_of e) m) (found w u o fits a)
       ∙ ap (λ x. step d o (gives x)) (ap (λ l. walked w (option_map (met_of e) m) l) (sym b ∙ ap (map (step_in s.book.source.now)) (sym is)) ∙ walk w fits)
 
+  needs : (w : World) (p : ℕ) (o : List ℕ) (m : Option Met) → Rattle.meaning.specs.Looking.needed w p e (option_map (met_of e) m) d o ≡ step d o (ended held_in (needed m) p e)
+  unfolding still
+  needs w p o None = refl
+  needs w p o (Some (met.Value v)) = refl
+  needs w p o (Some (met.Loop l)) = refl
+
   -- what is asked for a value
-  pub asked : (x : Expr) (m : Option Met) (r : Result (Value (Bor (List ℕ))) Fault) → Reached s fs d x m → Asks m r → Evaluated s fs d x r
-  unfolding eval still ◌and_then◌
-  asked x None r reached is w t p o fits given = ap (λ q. go_on q (λ m. needed w p e m)) (reached w t o fits given) ∙ ap (λ q. step d o (ended held_in q p e)) (sym is)
-  asked x (Some (met.Value v)) r reached is w t p o fits given = ap (λ q. go_on q (λ m. needed w p e m)) (reached w t o fits given) ∙ ap (λ q. step d o (ended held_in q p e)) (sym is)
-  asked x (Some (met.Loop l)) r reached is w t p o fits given = ap (λ q. go_on q (λ m. needed w p e m)) (reached w t o fits given) ∙ ap (λ q. step d o (ended held_in q p e)) (sym is)
+  pub asked : (x : Expr) (m : Option Met) (r : Result (Value (Bor (List ℕ))) Fault) → Reached s fs d x m → r ≡ needed m → Evaluated s fs d x r
+  unfolding eval ◌and_then◌
+  asked x m r reached is w t p o fits given =
+      ap (λ q. go_on q (λ m. Rattle.meaning.specs.Looking.needed w p e m)) (reached w t o fits given) ∙ needs w p o m ∙ ap (λ q. step d o (ended held_in q p e)) (sym is)
 
   -- the number of a value
   pub numbered : (x : Expr) (v : Value (Bor (List ℕ))) (r : Result ℤ Fault) → Evaluated s fs d x (Ok v) → r ≡ ok_or (number_of (held_in v)) NoNumber → NumberFound s fs d x r

@@ -1,2 +1,3 @@
 pub mod Values
 pub mod Steps
+pub mod Literals

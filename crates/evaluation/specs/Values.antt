@@ -1,5 +1,5 @@
 -- What calls that evaluate answer, as the definition's acts: they change neither drawers nor text.
-use Rattle.std.specs.Prelude.{◌≡◌, ℕ, List, ℤ, Some, Option, Result}
+use Rattle.std.specs.Prelude.{◌≡◌, ℕ, List, ℤ, Some, None, Ok, Err, Option, Result}
 use Rattle.std.specs.Option.{option_map}
 use Rattle.std.specs.Borrow.{Bor}
 use Rattle.nodes.specs.declared.exprs.Head.{Head}
@@ -13,6 +13,8 @@ use Rattle.held.specs.Records.{held_in}
 use Rattle.held.specs.Scenes.{host_in, pool_of, Fits}
 use Rattle.frames.specs.declared.stack.Frames as code
 use Rattle.frames.specs.declared.met.Met.{Met}
+use Rattle.frames.specs.declared.met.Met.TheVariants as met
+use Rattle.held.specs.declared.faults.Fault.TheVariants.{Absent, LoopObject}
 use Rattle.frames.specs.Views.{around_in, met_of}
 use Rattle.tree.specs.Expressions as tree
 use Rattle.meaning.specs.Things.{Drawers}
@@ -20,6 +22,12 @@ use Rattle.meaning.specs.Frames.{Frames}
 use Rattle.meaning.specs.Acts.{gives, step}
 use Rattle.meaning.specs.Looking.{World, find, reach, eval}
 use Rattle.meaning.specs.Openings.{number}
+
+-- the value that was met; nothing and a loop object are faults
+abbrev pub needed : Option Met → Result (Value (Bor (List ℕ))) Fault
+needed None = Err Absent
+needed (Some (met.Value v)) = Ok v
+needed (Some (met.Loop l)) = Err LoopObject
 
 module _ (s : Scene) (fs : code.Frames) (d : Drawers) where
   -- the frames around

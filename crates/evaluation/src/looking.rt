@@ -6,7 +6,8 @@ ghost use Rattle.frames.specs.Views.{around_in};
 ghost use Rattle.meaning.specs.Frames.{bound};
 ghost use Rattle.meaning.specs.Things.{name};
 ghost use Rattle.drawers.specs.Shown.{shows};
-ghost use Rattle.evaluation.specs.Values.{Found, Reached, Evaluated, NumberFound};
+ghost use Rattle.evaluation.specs.Literals.{literal_of};
+ghost use Rattle.evaluation.specs.Values.{needed, Found, Reached, Evaluated, NumberFound};
 ghost use Rattle.frames.specs.Items.{item_of};
 ghost use Rattle.held.specs.Records.{held_in};
 ghost use Rattle.held.specs.Scenes.{host_in, Fits};
@@ -22,7 +23,7 @@ use held::faults::Fault;
 use held::records::record_value;
 use held::scenes::Scene;
 use held::value::Value;
-use nodes::book::entries;
+use nodes::book::{Book, entries};
 use nodes::exprs::{Expr, Head};
 use numerals::read_whole;
 
@@ -76,6 +77,18 @@ fn find<'a>(scene: Scene<'a>, frames: &Frames, drawers: &'a Drawers, head: Head)
     }
 }
 
+// The value of a literal; a path is none.
+fn literal<'a>(book: Book<'a>, value: Expr) -> Value<&'a [u8]>
+    ensures { held_in result ≡ literal_of book.entry.source.now value }
+{
+    match value {
+        Expr::Nil | Expr::Path(..) => Value::Nil,
+        Expr::Boolean(b) => Value::Boolean(b),
+        Expr::Number(n) => Value::Whole(n),
+        Expr::Text(part) => Value::Text(part_in(book, part)),
+    }
+}
+
 /// What a value comes to, if it is there.
 pub fn reach<'a>(
     scene: Scene<'a>,
@@ -86,14 +99,24 @@ pub fn reach<'a>(
     ensures { Reached scene.entry frames.now (shows drawers.now) value result }
 {
     match value {
-        Expr::Nil => Some(Met::Value(Value::Nil)),
-        Expr::Boolean(b) => Some(Met::Value(Value::Boolean(b))),
-        Expr::Number(n) => Some(Met::Value(Value::Whole(n))),
-        Expr::Text(part) => Some(Met::Value(Value::Text(part_in(scene.book, part)))),
         Expr::Path(head, steps) => {
             let met = find(scene, frames, drawers, head)?;
             walk(scene, frames, met, entries(scene.book.steps, steps))
         }
+        _ => Some(Met::Value(literal(scene.book, value))),
+    }
+}
+
+// The value that was met.
+fn needed<'a>(met: Option<Met<'a>>) -> Result<Value<&'a [u8]>, Fault>
+    ensures { result ≡ needed met.entry }
+{
+    match met {
+        None => Err(Fault::Absent),
+        Some(met) => match met {
+            Met::Value(value) => Ok(value),
+            Met::Loop(_) => Err(Fault::LoopObject),
+        },
     }
 }
 
@@ -106,11 +129,7 @@ pub fn eval<'a>(
 ) -> Result<Value<&'a [u8]>, Fault>
     ensures { Evaluated scene.entry frames.now (shows drawers.now) value result }
 {
-    match reach(scene, frames, drawers, value) {
-        None => Err(Fault::Absent),
-        Some(Met::Value(value)) => Ok(value),
-        Some(Met::Loop(_)) => Err(Fault::LoopObject),
-    }
+    needed(reach(scene, frames, drawers, value))
 }
 
 // The whole number that can be read from a value.

@@ -3,31 +3,20 @@ use Rattle.std.specs.Option.{option_map}
 use Rattle.nodes.specs.declared.exprs.Expr.{Expr}
 use Rattle.nodes.specs.declared.exprs.Expr.TheVariants.{Path}
 use Rattle.frames.specs.declared.met.Met.{Met}
+use Rattle.frames.specs.declared.met.Met.TheVariants as met
+use Rattle.held.specs.declared.value.Value.TheVariants as value_of
 use Rattle.frames.specs.Views.{around_in, met_of}
 use Rattle.drawers.specs.Shown.{shows}
 use Rattle.held.specs.Scenes.{host_in}
 use Rattle.meaning.specs.Looking.{walked}
 use Rattle.evaluation.specs.Steps.{step_in}
 use Rattle.evaluation.specs.Values.{Found, Reached}
-use Rattle.evaluation.proofs.Founds.{reached_nil, reached_boolean, reached_number, reached_text, reached_path}
+use Rattle.evaluation.proofs.Founds.{reached_literal, reached_path}
 use Rattle.evaluation.proofs.Walking.{walked_nowhere}
 use Rattle.evaluation.proofs.looking.reach.Goals as goal
 
-pub returns-in-Nil : goal.returns-in-Nil
-returns-in-Nil c =
-    subst (λ x. Reached c.args.scene c.args.frames.now (shows c.args.drawers.now) x _) (sym c.in-Nil.is) (reached_nil c.args.scene c.args.frames.now (shows c.args.drawers.now))
-
-pub returns-in-Boolean : goal.returns-in-Boolean
-returns-in-Boolean c =
-    subst (λ x. Reached c.args.scene c.args.frames.now (shows c.args.drawers.now) x _) (sym c.in-Boolean.is) (reached_boolean c.args.scene c.args.frames.now (shows c.args.drawers.now) c.in-Boolean.b)
-
-pub returns-in-Number : goal.returns-in-Number
-returns-in-Number c =
-    subst (λ x. Reached c.args.scene c.args.frames.now (shows c.args.drawers.now) x _) (sym c.in-Number.is) (reached_number c.args.scene c.args.frames.now (shows c.args.drawers.now) c.in-Number.n)
-
-pub returns-in-Text : goal.returns-in-Text
-returns-in-Text c =
-    subst (λ x. Reached c.args.scene c.args.frames.now (shows c.args.drawers.now) x _) (sym c.in-Text.is) (reached_text c.args.scene c.args.frames.now (shows c.args.drawers.now) c.in-Text.part c.part_in.result c.part_in.ensures)
+pub returns-in_default : goal.returns-in_default
+returns-in_default c = reached_literal c.args.scene c.args.frames.now (shows c.args.drawers.now) c.args.value c.literal.result c.in_default.not-Path c.literal.ensures
 
 pub returns-in_err-met-in-Path : goal.returns-in_err-met-in-Path
 returns-in_err-met-in-Path c =
