@@ -1,0 +1,4 @@
+pub mod Decodes
+pub mod Runs
+pub mod Costs
+pub mod Endings

@@ -1,3 +1,6 @@
 pub mod Acts
+pub mod Costs
+pub mod Ends
+pub mod Flows
 pub mod Openings
 pub mod Running

@@ -2,5 +2,8 @@
 
 #![tactic(auto)]
 
+mod ends;
+mod flow;
+mod machine;
 mod openings;
 mod stdlib;

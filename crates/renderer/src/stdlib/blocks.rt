@@ -1,1 +1,4 @@
+pub(crate) mod capture_block;
 pub(crate) mod for_block;
+pub(crate) mod ifchanged_block;
+pub(crate) mod tablerow_block;
