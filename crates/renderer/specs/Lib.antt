@@ -1,2 +1,3 @@
 pub mod Acts
+pub mod Guards
 pub mod Running

@@ -1,3 +1,6 @@
 //! Tickets: templates of a sheet rendered with a tray, drawers and a bank into a buffer.
 
 #![tactic(auto)]
+
+mod guards;
+mod stdlib;

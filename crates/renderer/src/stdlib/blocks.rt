@@ -1,0 +1,2 @@
+pub(crate) mod case_block;
+pub(crate) mod if_block;
