@@ -1,2 +1,3 @@
 pub mod Conditions
 pub mod Equals
+pub mod Passing

@@ -1,9 +1,7 @@
 // Which arm of a block is taken.
-ghost use Rattle.std.specs.Prelude.{◌≡◌, ◌≤◌, ◌<◌, Some, Ok};
+ghost use Rattle.std.specs.Prelude.{◌+◌};
 ghost use Rattle.drawers.specs.Shown.{shows};
-ghost use Rattle.nodes.specs.declared.table.Node.TheVariants as node_of;
-ghost use Rattle.std.specs.List.{slice_get};
-ghost use Rattle.renderer.specs.Guards.{Passed};
+ghost use Rattle.renderer.specs.Guards.{Judged, Passed};
 
 use crate::stdlib::blocks::case_block::one_equal;
 use crate::stdlib::blocks::if_block::judge;
@@ -21,6 +19,19 @@ pub(crate) struct Seen<'a> {
     pub(crate) filled: bool,
 }
 
+// Whether the condition holds whose nodes stand behind `node`, up to `body`.
+fn holds(
+    scene: Scene,
+    frames: &Frames,
+    drawers: &Drawers,
+    node: usize,
+    body: usize,
+) -> Result<bool, Fault>
+    ensures { Judged scene.entry frames.now (shows drawers.now) (node + 1) body result }
+{
+    judge(scene, frames, drawers, node.saturating_add(1), body)
+}
+
 /// Whether the guard of the arm passes whose node stands at `node`.
 pub(crate) fn passes(
     scene: Scene,
@@ -33,9 +44,9 @@ pub(crate) fn passes(
     ensures { Passed scene.entry frames.now (shows drawers.now) arm node seen.entry result }
 {
     match arm.guard {
-        Guard::Holds => judge(scene, frames, drawers, node.saturating_add(1), arm.body),
+        Guard::Holds => holds(scene, frames, drawers, node, arm.body),
         Guard::Fails => {
-            let holds = judge(scene, frames, drawers, node.saturating_add(1), arm.body)?;
+            let holds = holds(scene, frames, drawers, node, arm.body)?;
             Ok(!holds)
         }
         Guard::Equals(values) => one_equal(scene, frames, drawers, values, seen.target),
