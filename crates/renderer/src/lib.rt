@@ -3,4 +3,5 @@
 #![tactic(auto)]
 
 mod openings;
+mod guards;
 mod stdlib;
