@@ -2,3 +2,9 @@ pub mod Decodes
 pub mod Runs
 pub mod Costs
 pub mod Endings
+pub mod Rows
+pub mod Chaining
+pub mod Opening
+pub mod Conditions
+pub mod Equals
+pub mod Passing

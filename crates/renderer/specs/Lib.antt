@@ -3,4 +3,5 @@ pub mod Costs
 pub mod Ends
 pub mod Flows
 pub mod Openings
+pub mod Guards
 pub mod Running

@@ -4,6 +4,7 @@
 
 mod ends;
 mod flow;
+mod guards;
 mod machine;
 mod openings;
 mod stdlib;
