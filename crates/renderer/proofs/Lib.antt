@@ -1,3 +1,4 @@
-pub mod Rows
 pub mod Chaining
+pub mod Leaving
 pub mod Opening
+pub mod Rows

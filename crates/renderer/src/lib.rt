@@ -2,5 +2,7 @@
 
 #![tactic(auto)]
 
+mod flow;
+mod leaves;
 mod openings;
 mod stdlib;
