@@ -25,7 +25,7 @@ use Rattle.nodes.specs.declared.exprs.Part.{Part}
 use Rattle.nodes.specs.declared.exprs.Chain as code_chain
 use Rattle.nodes.specs.declared.exprs.Expr as code_expr
 use Rattle.nodes.specs.declared.exprs.Span.{Span}
-use Rattle.nodes.specs.declared.table.Leaf.TheVariants.{Plain, Output, Assign, Increment, Decrement, Cycle}
+use Rattle.nodes.specs.declared.table.Leaf.TheVariants.{Plain, Output, Assign, Increment, Decrement, Cycle, Break, Continue}
 use Rattle.nodes.specs.Books.{spelled}
 use Rattle.nodes.specs.Exprs.{◌so◌, bytes_of, chain_of, each, entries, expr_of, values_of}
 use Rattle.nodes.specs.Trees.{leaf_of, numbered}
@@ -451,3 +451,17 @@ module _ (s : Scene) (fs : code.Frames) (m : Meaning) (filled : ℕ) (old : List
         (then_does (eval w₃ y p e₃) (λ v. write w₃ (text_of w₃ v) p e₃) (held_in v) onward p e₃ after after after filled old new r
         (eval_so w₃ y p (take filled old) (record { names = refl; host = refl }) g)
         (wrote_does w₃ (text_of w₃ (held_in v)) p e₃ after filled old new r refl emits l))))
+
+-- `break` and `continue`
+module _ (s : Scene) (fs : code.Frames) (m : Meaning) (d : Drawers) (filled : ℕ) (old : List ℕ) where
+  pub break_done : LeafDone s fs m d d filled old old (Ok filled) Break
+  unfolding leaf_of leaf_act still
+  break_done t p given few l =
+      subst (λ t. Does (leaf_act (world s m (length old)) t p (around_in (host_in s) fs)) broken p (around_in (host_in s) fs) d d filled old old (Ok filled)) (some_is tree.break t given)
+      (record { long = refl; within = l; did = refl })
+
+  pub continue_done : LeafDone s fs m d d filled old old (Ok filled) Continue
+  unfolding leaf_of leaf_act still
+  continue_done t p given few l =
+      subst (λ t. Does (leaf_act (world s m (length old)) t p (around_in (host_in s) fs)) continued p (around_in (host_in s) fs) d d filled old old (Ok filled)) (some_is tree.continue t given)
+      (record { long = refl; within = l; did = refl })

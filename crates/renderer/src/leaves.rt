@@ -30,7 +30,7 @@ pub(crate) fn render_leaf<B: Bank>(
     match leaf {
         Leaf::Plain(part) => write_plain(scene, part, out, filled),
         Leaf::Output(chain) => write_output(scene, frames, drawers, bank, chain, out, filled),
-        Leaf::Assign(n, chain) => assign(scene, frames, drawers, bank, n, chain, out, filled),
+        Leaf::Assign(n, chain) => assign(scene, frames, drawers, bank, n, chain, filled),
         Leaf::Increment(n) => increment(drawers, n, out, filled),
         Leaf::Decrement(n) => decrement(drawers, n, out, filled),
         Leaf::Cycle(n, values) => cycle(scene, frames, drawers, n, values, out, filled),

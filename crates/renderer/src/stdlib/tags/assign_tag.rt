@@ -1,5 +1,5 @@
 // `{% assign name = value %}`.
-ghost use Rattle.std.specs.Prelude.{◌≡◌};
+ghost use Rattle.std.specs.Prelude.{◌≡◌, ℕ, List};
 ghost use Rattle.drawers.specs.Shown.{shows};
 ghost use Rattle.nodes.specs.declared.table.Leaf.TheVariants.{Assign};
 ghost use Rattle.renderer.specs.Leaves.{LeafDone};
@@ -13,7 +13,7 @@ use held::faults::Fault;
 use held::scenes::Scene;
 use nodes::exprs::Chain;
 
-/// Sets a variable to what a chain comes to; a text over 256 bytes is a fault.
+/// Sets a variable to what a chain comes to; a text over 256 bytes is a fault. The text of the ticket ends at `filled`, as before.
 pub(crate) fn assign<B: Bank>(
     scene: Scene,
     frames: &Frames,
@@ -21,12 +21,10 @@ pub(crate) fn assign<B: Bank>(
     bank: &mut B,
     target: usize,
     value: Chain,
-    out: &mut [u8],
     filled: usize,
 ) -> Result<usize, Fault>
-    ensures done { LeafDone scene.entry frames.now (B.Bank.meaning bank.old) (shows drawers.old) (shows drawers.new) filled out.old out.new result (Assign target value) }
+    ensures done { (text : List ℕ) → LeafDone scene.entry frames.now (B.Bank.meaning bank.old) (shows drawers.old) (shows drawers.new) filled text text result (Assign target value) }
     ensures same { B.Bank.meaning bank.new ≡ B.Bank.meaning bank.old }
-    ensures unwritten { out.new ≡ out.old }
 {
     let mut answer = [0; 256];
     let came = chain(scene, frames, drawers, bank, value, &mut answer)?;
