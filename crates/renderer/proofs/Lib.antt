@@ -1,10 +1,11 @@
-pub mod Decodes
-pub mod Runs
-pub mod Costs
-pub mod Endings
-pub mod Rows
 pub mod Chaining
-pub mod Opening
 pub mod Conditions
+pub mod Costs
+pub mod Decodes
+pub mod Endings
 pub mod Equals
+pub mod Leaving
+pub mod Opening
 pub mod Passing
+pub mod Rows
+pub mod Runs

@@ -2,6 +2,7 @@ pub mod Acts
 pub mod Costs
 pub mod Ends
 pub mod Flows
-pub mod Openings
 pub mod Guards
+pub mod Leaves
+pub mod Openings
 pub mod Running

@@ -5,6 +5,7 @@
 mod ends;
 mod flow;
 mod guards;
+mod leaves;
 mod machine;
 mod openings;
 mod stdlib;
