@@ -58,11 +58,14 @@ module _ (s : Scene) (fs : code.Frames) (d : Drawers) (v : Held) where
       ((w : World) (p : ℕ) (o : List ℕ) → Fits w s → one_equal w all v p e d o ≡ cond b (step d o (gives true)) (one_equal w us v p e d o))
   unfolding ◌and_then◌ still
   unequal_step left x xs all y b l is got eq =
-      let (u, us, a, r, q) = first x xs l.rest (ap (each (expr_of (pool_of s))) (sym is) ∙ l.is) in
-      (us, r, λ w p o fits.
-      l.same w p o fits ∙ ap (λ ts. one_equal w ts v p e d o) (sym q)
-      ∙ ap (λ z. go_on z (λ y. cond (same w y v) (pure true) (one_equal w us v p e))) (got w u p o fits a)
-      ∙ ap (λ t. cond t (pure true) (one_equal w us v p e) d o) (sym (eq w fits)) ∙ by w p o us b)
+      let (u, us, a, r, q) = first x xs l.rest (ap (each (expr_of (pool_of s))) (sym is) ∙ l.is) in (
+        us,
+        r,
+        λ w p o fits.
+            l.same w p o fits ∙ ap (λ ts. one_equal w ts v p e d o) (sym q)
+            ∙ ap (λ z. go_on z (λ y. cond (same w y v) (pure true) (one_equal w us v p e))) (got w u p o fits a)
+            ∙ ap (λ t. cond t (pure true) (one_equal w us v p e) d o) (sym (eq w fits)) ∙ by w p o us b,
+      )
     where
       by : (w : World) (p : ℕ) (o : List ℕ) (us : List tree.Expr) (b : Bool) → cond b (pure true) (one_equal w us v p e) d o ≡ cond b (step d o (gives true)) (one_equal w us v p e d o)
       by w p o us true = refl

@@ -1,3 +1,4 @@
 pub mod Conditions
 pub mod Equals
 pub mod Passing
+pub mod Taking

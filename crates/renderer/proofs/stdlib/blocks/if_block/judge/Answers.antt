@@ -42,11 +42,11 @@ returns-then-i-end c n t given =
     let tested = subst (Tested s c.args.frames.now d c.in-Some.node.now) c.in_ok-passed.was c.test.ensures in
     let left = c.loop-node.invariant n t given in
     elim c.then-i-end.branch [
-        then-i-end-via-then-i-end w ↦
-            left_last s c.args.frames.now d c.loop-node.i c.args.end t c.in-Some.node.now c.in_ok-passed.passed left at tested (λ j x. w.if-i-end.true)
+      | then-i-end-via-then-i-end w ↦
+          left_last s c.args.frames.now d c.loop-node.i c.args.end t c.in-Some.node.now c.in_ok-passed.passed left at tested (λ j x. w.if-i-end.true)
       | then-i-end-via-else-i-end+then-not-more w ↦
-            left_short s c.args.frames.now d c.loop-node.i c.args.end t c.in-Some.node.now c.in-Some-get.join.now c.in_ok-passed.passed c.goes_on-more.result left at tested there
-            c.goes_on-more.ensures w.if-not-more.true
+          left_short s c.args.frames.now d c.loop-node.i c.args.end t c.in-Some.node.now c.in-Some-get.join.now c.in_ok-passed.passed c.goes_on-more.result left at tested there
+          c.goes_on-more.ensures w.if-not-more.true
     ]
 
 pub loop-node-preserved : goal.loop-node-preserved
