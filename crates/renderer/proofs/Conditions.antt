@@ -22,13 +22,13 @@ use Rattle.frames.specs.declared.met.Met.{Met}
 use Rattle.frames.specs.Views.{around_in, met_of}
 use Rattle.evaluation.specs.Values.{Reached, Evaluated}
 use Rattle.comparisons.specs.Ends.{Ends}
-use Rattle.tree.specs.Conditions.{Test, exists, compares, Condition, only as lone}
+use Rattle.tree.specs.Conditions.{Test, exists, Condition, only as lone}
 use Rattle.meaning.specs.Things.{Drawers}
 use Rattle.meaning.specs.Frames.{Frames}
 use Rattle.meaning.specs.Acts.{step, gives, go_on, still, pure, ◌and_then◌}
-use Rattle.meaning.specs.Looking.{World, eval, reach}
+use Rattle.meaning.specs.Looking.{World, eval}
 use Rattle.meaning.specs.Tests.{there, compared, tested, judged}
-use Rattle.renderer.specs.Guards.{Answered, Compared, Tested, Judged}
+use Rattle.renderer.specs.Guards.{Answered, Compared, Tested}
 
 module _ (s : Scene) (fs : code.Frames) (d : Drawers) where
   abbrev e : Frames

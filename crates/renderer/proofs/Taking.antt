@@ -1,29 +1,26 @@
 -- The arms of a block, one by one.
-use Rattle.std.proofs.Common.{◌≡◌, ℕ, zero, suc, ◌+◌, ◌-◌, ◌<◌, ◌≤◌, Bool, true, false, ◌&&◌, cond, eqb, ltb, leb, List, Some, None, Ok, Err, Option, Result, refl, ap, ◌∙◌, sym, subst, arith}
+use Rattle.std.proofs.Common.{◌≡◌, ℕ, zero, suc, ◌+◌, ◌<◌, ◌≤◌, Bool, true, false, ◌&&◌, cond, eqb, ltb, leb, List, Some, None, Ok, Err, Option, refl, ap, ◌∙◌, sym, subst, arith}
 use Rattle.std.proofs.lemmas.Bool.{eqb-true, ltb-true, leb-true, le-leb}
 use Rattle.std.specs.List.{slice_get}
 use Rattle.tree.specs.Elements.{Block, Guard, holds, fails, equals_one, always, Tree, done, Arms, no_arms, arm}
 use Rattle.nodes.specs.declared.table.Arm.{Arm}
 use Rattle.nodes.specs.declared.table.Guard as table
 use Rattle.nodes.specs.declared.table.Guard.TheVariants as guard
-use Rattle.nodes.specs.declared.table.Next.{Next}
 use Rattle.nodes.specs.declared.table.Next.TheVariants as next
 use Rattle.nodes.specs.declared.table.Node.{Node}
 use Rattle.nodes.specs.declared.table.Node.TheVariants as node
-use Rattle.nodes.specs.Exprs.{Pool, ◌so◌, where_so, only}
-use Rattle.nodes.specs.Trees.{guard_of, arm_of, arm_at, element_at, elements_of, arms_of}
+use Rattle.nodes.specs.Exprs.{Pool, ◌so◌, where_so}
+use Rattle.nodes.specs.Trees.{guard_of, arm_at, element_at, elements_of, arms_of}
 use Rattle.nodes.proofs.Options.{none_some, some_is, so_parts, where_parts, only_parts, only_is, mapped_parts}
 use Rattle.held.specs.declared.faults.Fault.{Fault}
 use Rattle.held.specs.declared.scenes.Scene.{Scene}
-use Rattle.held.specs.Faults.{ended, number_of, cause_of}
 use Rattle.held.specs.Scenes.{host_in, pool_of, Fits}
 use Rattle.frames.specs.declared.stack.Frames as code
 use Rattle.frames.specs.Views.{around_in}
 use Rattle.meaning.specs.Things.{Drawers}
 use Rattle.meaning.specs.Frames.{Frames}
-use Rattle.meaning.specs.Acts.{step, gives, stops, fault_at, go_on, still, pure, ◌and_then◌}
+use Rattle.meaning.specs.Acts.{go_on, still, ◌and_then◌}
 use Rattle.meaning.specs.Looking.{World}
-use Rattle.meaning.specs.Leaves.{onward}
 use Rattle.meaning.specs.Openings.{Opening}
 use Rattle.meaning.specs.Rendering.{taken}
 use Rattle.renderer.specs.declared.guards.Seen.{Seen}
@@ -31,7 +28,7 @@ use Rattle.renderer.specs.declared.guards.First.{First}
 use Rattle.renderer.specs.declared.guards.First.TheVariants as first
 use Rattle.renderer.specs.declared.guards.Chosen.{Chosen}
 use Rattle.renderer.specs.Running.{Spells, SpellsArms}
-use Rattle.renderer.specs.Guards.{Sees, Passed, IsFirst, Comes, else_at, otherwise_in, from, SpellsArm, Stands, IsGuard, visiting, Takes, Taken}
+use Rattle.renderer.specs.Guards.{Sees, Passed, IsFirst, Comes, otherwise_in, from, SpellsArm, Stands, IsGuard, visiting, Taken}
 
 both_parts : (a b : Bool) → (a && b) ≡ true → (a ≡ true) × (b ≡ true)
 both_parts true b h = (refl, h)

@@ -24,7 +24,7 @@ use Rattle.tree.specs.Conditions.{Test, compares, Condition}
 use Rattle.tree.specs.Elements.{Block, Guard, holds, fails, equals_one, has_items, always, Tree, Arms}
 use Rattle.meaning.specs.Things.{Drawers, Held}
 use Rattle.meaning.specs.Frames.{Frames}
-use Rattle.meaning.specs.Acts.{Act, Step, End, step, gives, stops, fault_at}
+use Rattle.meaning.specs.Acts.{Act, step, gives, stops, fault_at}
 use Rattle.meaning.specs.Looking.{World}
 use Rattle.meaning.specs.Tests.{tested, judged}
 use Rattle.meaning.specs.Leaves.{Flow, onward}
@@ -119,8 +119,8 @@ visiting w b p o g t e = closing (manner b o g) p e (visits (manner b o g) (visi
 
 module _ (s : Scene) (fs : code.Frames) (d : Drawers) (room : ℕ) (v : Seen) (r : Arms) where
   -- in every world of the scene, for every block, place and opening that is seen so, the arms come to this
-  abbrev pub Comes_to : (World → Block → ℕ → Opening → Frames → Act Flow) → Type 0
-  Comes_to act = (w : World) (b : Block) (p : ℕ) (o : Opening) (t : List ℕ) → Fits w s → Sees v o → taken w b p o r (around s fs d) d t ≡ act w b p o (around s fs d) d t
+  abbrev pub ComesTo : (World → Block → ℕ → Opening → Frames → Act Flow) → Type 0
+  ComesTo act = (w : World) (b : Block) (p : ℕ) (o : Opening) (t : List ℕ) → Fits w s → Sees v o → taken w b p o r (around s fs d) d t ≡ act w b p o (around s fs d) d t
 
   -- an arm that is taken
   pub record Takes (c : Chosen) : Type 0 where
@@ -128,9 +128,9 @@ module _ (s : Scene) (fs : code.Frames) (d : Drawers) (room : ℕ) (v : Seen) (r
     pub body : Tree
     pub kind : IsGuard c.guard guard
     pub spells : Spells (pool_of s) s.book.nodes.now room c.body c.end body
-    pub visits : Comes_to (λ w b p o e. visiting w b p o guard body e)
+    pub visits : ComesTo (λ w b p o e. visiting w b p o guard body e)
 
   abbrev pub Taken : Result (Option Chosen) Fault → Type 0
-  Taken (Err k) = Comes_to (λ w b p o e d t. step d t (stops (fault_at (number_of k) (cause_of k) p e)))
-  Taken (Ok None) = Comes_to (λ w b p o e d t. step d t (gives onward))
+  Taken (Err k) = ComesTo (λ w b p o e d t. step d t (stops (fault_at (number_of k) (cause_of k) p e)))
+  Taken (Ok None) = ComesTo (λ w b p o e d t. step d t (gives onward))
   Taken (Ok (Some c)) = Takes c

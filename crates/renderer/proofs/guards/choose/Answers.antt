@@ -1,8 +1,8 @@
-use Rattle.std.proofs.Common.{◌≡◌, ℕ, ◌+◌, ◌-◌, ◌<◌, ◌≤◌, Some, Ok, Err, ap, refl, sym, ◌∙◌, subst, arith}
+use Rattle.std.proofs.Common.{◌≡◌, ◌-◌, ◌<◌, ◌≤◌, Err, ap, refl, sym, ◌∙◌, subst, arith}
 use Rattle.std.proofs.lemmas.Result.{err_from_is_err_and}
 use Rattle.drawers.specs.Shown.{shows}
 use Rattle.renderer.specs.Guards.{from, Passed, Taken}
-use Rattle.renderer.proofs.Taking.{start, starts, untaken_all, taken_fault, taken_here, untaken_more, taken_otherwise}
+use Rattle.renderer.proofs.Taking.{start, starts, taken_fault, taken_here, untaken_more, taken_otherwise}
 use Rattle.renderer.proofs.guards.choose.Goals as goal
 
 pub returns-in_err-passes-clause-taken : goal.returns-in_err-passes-clause-taken

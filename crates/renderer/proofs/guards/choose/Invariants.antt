@@ -1,4 +1,4 @@
-use Rattle.std.proofs.Common.{◌≡◌, ℕ, ◌-◌, ◌≤◌}
+use Rattle.std.proofs.Common.{ℕ, ◌-◌, ◌≤◌}
 use Rattle.drawers.specs.Shown.{shows}
 use Rattle.held.specs.Scenes.{pool_of}
 use Rattle.tree.specs.Elements.{Arms}

@@ -1,4 +1,4 @@
-use Rattle.std.proofs.Common.{◌≡◌, ◌+◌, Some, Ok, Err, ap, refl, sym, ◌∙◌, subst, length}
+use Rattle.std.proofs.Common.{◌+◌, Err, ap, refl, sym, ◌∙◌, subst, length}
 use Rattle.std.proofs.lemmas.Option.{slice_get_read, slice_get_past}
 use Rattle.std.proofs.lemmas.Result.{err_from_is_err_and}
 use Rattle.nodes.proofs.Options.{none_some}
