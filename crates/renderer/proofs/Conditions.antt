@@ -142,9 +142,6 @@ module _ (s : Scene) (fs : code.Frames) (d : Drawers) where
     pub is : condition_of (pool_of s) s.book.nodes.now steps i end ≡ Some rest
     pub same : (w : World) (p : ℕ) (o : List ℕ) → Fits w s → judged w c p e d o ≡ judged w rest p e d o
 
-  pub left_all : (k i end : ℕ) (c : Condition) → condition_of (pool_of s) s.book.nodes.now k i end ≡ Some c → Left i end c
-  left_all k i end c h = record { steps = k; rest = c; is = h; same = λ w p o fits. refl }
-
   pub left_more : (i end : ℕ) (c : Condition) (n j : Node) (y g : Bool) → Left i end c → slice_get s.book.nodes.now i ≡ Some n → Tested s fs d n (Ok y) →
       slice_get s.book.nodes.now (i + 1) ≡ Some j → (i + 1 ≡ end → ⊥) → (j ≡ node.And → g ≡ y) × (j ≡ node.Or → g ≡ not y) → g ≡ true → Left (i + 2) end c
   left_more i end c n j y g l at tested there goes m is =

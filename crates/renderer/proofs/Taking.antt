@@ -46,7 +46,7 @@ starts ns (first.Behind next.Arm j) i a h = let same = h.0 in (h.0, omega arith)
 starts ns (first.Behind next.Else j) i a h = absurd h
 
 -- an arm, its elements, and the arms behind it
-pub record ArmParts (b : Pool) (ns : List Node) (room i e : ℕ) (a : Arm) (r : Arms) : Type 0 where
+record ArmParts (b : Pool) (ns : List Node) (room i e : ℕ) (a : Arm) (r : Arms) : Type 0 where
   pub behind : i < a.body
   pub order : a.body ≤ a.next
   pub before : a.next ≤ e
@@ -59,7 +59,7 @@ pub record ArmParts (b : Pool) (ns : List Node) (room i e : ℕ) (a : Arm) (r : 
   pub is : r ≡ arm guard body rest
 
 module _ (b : Pool) (ns : List Node) (room e : ℕ) where
-  pub arm_parts : (i : ℕ) (a : Arm) (r : Arms) → SpellsArm b ns a room i e r → ArmParts b ns room i e a r
+  arm_parts : (i : ℕ) (a : Arm) (r : Arms) → SpellsArm b ns a room i e r → ArmParts b ns room i e a r
   arm_parts i a r h =
       let (fits, inner) = where_parts _ _ r h.is in
       let (behind, more) = both_parts _ _ fits in
@@ -119,7 +119,7 @@ module _ (b : Pool) (ns : List Node) (room e : ℕ) where
   nothing_behind (suc k) i r h = sym ((only_parts _ _ r h).1)
 
   -- the first arm is one of the tree
-  pub first_spelt : (f : First) (i : ℕ) (a : Arm) (r : Arms) → Stands b ns room e f r → IsFirst ns f i a → SpellsArm b ns a room i e r
+  first_spelt : (f : First) (i : ℕ) (a : Arm) (r : Arms) → Stands b ns room e f r → IsFirst ns f i a → SpellsArm b ns a room i e r
   first_spelt (first.Arm j c) i a r h is = subst (λ x. SpellsArm b ns a room x e r) is.0 (subst (λ x. SpellsArm b ns x room j e r) is.1 h)
   first_spelt (first.Behind next.Nothing j) i a r h is = absurd is
   first_spelt (first.Behind next.Arm j) i a r h is =
@@ -135,16 +135,16 @@ module _ (b : Pool) (ns : List Node) (room e : ℕ) where
       record { is = is; behind = p.behind; order = p.order; before = p.before }
 
   -- where no arm comes: an `else`, or no arms
-  pub record ElseParts (i : ℕ) (r : Arms) : Type 0 where
+  record ElseParts (i : ℕ) (r : Arms) : Type 0 where
     pub body : Tree
     pub spelt : Spells b ns room i e body
     pub is : r ≡ arm always body no_arms
 
-  abbrev pub Last : Option Chosen → Arms → Type 0
+  abbrev Last : Option Chosen → Arms → Type 0
   Last None r = r ≡ no_arms
   Last (Some c) r = (c.end ≡ e) × (c.guard ≡ guard.Always) × ElseParts c.body r
 
-  pub last_is : (f : First) (r : Arms) → Stands b ns room e f r → ((i : ℕ) (a : Arm) → Comes ns e f i a → ⊥) → Last (otherwise_in e f) r
+  last_is : (f : First) (r : Arms) → Stands b ns room e f r → ((i : ℕ) (a : Arm) → Comes ns e f i a → ⊥) → Last (otherwise_in e f) r
   last_is (first.Arm i a) r h none = absurd (none i a (comes (first.Arm i a) i a r (refl, refl) h))
   last_is (first.Behind next.Nothing i) r h none = nothing_behind h.steps i r h.is
   last_is (first.Behind next.Arm i) r h none =
@@ -156,7 +156,7 @@ module _ (b : Pool) (ns : List Node) (room e : ℕ) where
       (refl, refl, record { body = t; spelt = spelt; is = is })
 
   -- what a guard of the table is
-  pub guard_is : (i : ℕ) (a : Arm) (k : table.Guard) (g : Guard) → guard_of b ns i a k ≡ Some g → IsGuard k g
+  guard_is : (i : ℕ) (a : Arm) (k : table.Guard) (g : Guard) → guard_of b ns i a k ≡ Some g → IsGuard k g
   guard_is i a guard.Holds g h = let (c, q, m) = mapped_parts holds _ g h in (c, sym m)
   guard_is i a guard.Fails g h = let (c, q, m) = mapped_parts fails _ g h in (c, sym m)
   guard_is i a (guard.Equals s) g h =
@@ -175,9 +175,6 @@ module _ (s : Scene) (fs : code.Frames) (d : Drawers) (v : Seen) (room end : ℕ
     pub rest : Arms
     pub stands : Stands (pool_of s) s.book.nodes.now room end f rest
     pub same : (w : World) (b : Block) (p : ℕ) (o : Opening) (t : List ℕ) → Fits w s → Sees v o → taken w b p o r e d t ≡ taken w b p o rest e d t
-
-  pub untaken_all : (f : First) (r : Arms) → Stands (pool_of s) s.book.nodes.now room end f r → Untaken f r
-  untaken_all f r h = record { rest = r; stands = h; same = λ w b p o t fits sees. refl }
 
   pub taken_fault : (f : First) (i : ℕ) (a : Arm) (r : Arms) (k : Fault) → Untaken f r → Comes s.book.nodes.now end f i a → Passed s fs d a i v (Err k) → Taken s fs d room v r (Err k)
   unfolding taken ◌and_then◌
