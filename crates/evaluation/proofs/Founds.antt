@@ -1,5 +1,5 @@
 -- What the acts that look and evaluate come to.
-use Rattle.std.proofs.Common.{◌≡◌, ℕ, Bool, List, [], ◌∷◌, ℤ, Some, None, Ok, Err, Option, Result, refl, ap, ap₂, map, take, drop, length, nat_le, ◌+◌, ◌∙◌, sym, subst}
+use Rattle.std.proofs.Common.{◌≡◌, ℕ, List, [], ◌∷◌, ℤ, Some, None, Ok, Err, Option, Result, refl, ap, ap₂, map, take, drop, length, nat_le, ◌+◌, ◌∙◌, sym}
 use Rattle.std.specs.Option.{option_map, option_or, ok_or}
 use Rattle.std.specs.Borrow.{Bor}
 use Rattle.nodes.specs.declared.exprs.Head.{Head}
@@ -23,16 +23,13 @@ use Rattle.meaning.specs.Looking.{World, find, outside, reach, walked, eval, num
 use Rattle.evaluation.specs.Values.{needed, Found, Reached, Evaluated, NumberFound}
 use Rattle.evaluation.specs.Steps.{step_in}
 use Rattle.evaluation.specs.Literals.{literal_of}
-use Rattle.nodes.specs.Books.{spelled}
-use Rattle.nodes.specs.declared.exprs.Part.{Part}
 use Rattle.nodes.specs.declared.exprs.Span.{Span}
 use Rattle.nodes.specs.declared.exprs.Step.{Step}
 use Rattle.nodes.specs.declared.exprs.Step.TheVariants as code_step
 use Rattle.nodes.specs.declared.exprs.Expr.{Expr}
 use Rattle.nodes.specs.declared.exprs.Expr.TheVariants as expr
-use Rattle.held.specs.declared.value.Value.TheVariants as value_of
 use Rattle.held.specs.declared.faults.Fault.{Fault}
-use Rattle.held.specs.declared.faults.Fault.TheVariants.{Absent, LoopObject, NoNumber}
+use Rattle.held.specs.declared.faults.Fault.TheVariants.{NoNumber}
 use Rattle.held.specs.Faults.{ended}
 use Rattle.meaning.specs.Frames as met_
 use Rattle.meaning.specs.Openings.{whole_number}

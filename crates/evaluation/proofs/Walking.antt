@@ -1,5 +1,5 @@
 -- Steps that are left.
-use Rattle.std.proofs.Common.{◌≡◌, ℕ, List, [], ◌∷◌, map, length, Some, None, Option, refl, ap, ◌∙◌, sym, arith}
+use Rattle.std.proofs.Common.{◌≡◌, List, [], ◌∷◌, map, length, Some, None, Option, refl, ap, ◌∙◌, sym, arith}
 use Rattle.tree.specs.Expressions as tree
 use Rattle.nodes.specs.declared.exprs.Step.{Step}
 use Rattle.meaning.specs.Frames.{Met}

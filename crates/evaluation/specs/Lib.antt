@@ -1,3 +1,4 @@
 pub mod Values
 pub mod Steps
 pub mod Literals
+pub mod Chains

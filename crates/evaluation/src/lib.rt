@@ -2,6 +2,7 @@
 
 #![tactic(auto)]
 
+pub mod chains;
 pub mod looking;
 pub mod names;
 pub mod steps;

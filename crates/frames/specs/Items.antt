@@ -18,6 +18,7 @@ item_of h (item.Whole z) = whole z
 
 -- the items of a row
 abbrev pub items_in : AnyRow → List Item
+items_in row.Nothing = []
 items_in row.Once = item.Nil ∷ []
 items_in (row.Items s) = map item.Record (stepping s.span.first 1 s.span.count)
 items_in (row.Pairs s) = map item.Pair (stepping s.span.first 2 s.span.count)

@@ -18,10 +18,11 @@ pub enum Item {
     Whole(i64),
 }
 
-/// What a loop may go over: the items of an array, the pairs of an object, numbers,
+/// What a loop may go over: nothing, the items of an array, the pairs of an object, numbers,
 /// or the key and the value of a pair, by the numbers of their records. A block that is no loop goes over nil, once.
 #[derive(Clone, Copy)]
 pub enum AnyRow {
+    Nothing,
     Once,
     Items(Items),
     Pairs(Pairs),
@@ -40,6 +41,7 @@ impl Row for AnyRow {
 
     fn item(&self, k: usize) -> Option<Item> {
         match self {
+            AnyRow::Nothing => None,
             AnyRow::Once => (k == 0).then_some(Item::Nil),
             AnyRow::Items(items) => items.item(k).map(Item::Record),
             AnyRow::Pairs(pairs) => pairs.item(k).map(Item::Pair),
@@ -59,6 +61,7 @@ impl AnyRow {
         ensures { result ≡ length (items_in self) }
     {
         match self {
+            AnyRow::Nothing => 0,
             AnyRow::Once => 1,
             AnyRow::Items(items) => items.count() as u16,
             AnyRow::Pairs(pairs) => pairs.count() as u16,

@@ -10,26 +10,26 @@ use crate::frame::{Frame, TrailRecord};
 const RECORDS: usize = 16;
 
 // The record `k` of the trail, where the open frames are given with the outermost first.
-fn record_at(open: &[Frame], k: usize) -> TrailRecord
-    ensures { result ≡ get_or (map record_for (reverse open.now)) k TrailRecord.Blank }
+fn record_at(frames: &[Frame], k: usize) -> TrailRecord
+    ensures { result ≡ get_or (map record_for (reverse frames.now)) k TrailRecord.Blank }
 {
-    if k < open.len() {
-        open[open.len() - 1 - k].trail_record()
+    if k < frames.len() {
+        frames[frames.len() - 1 - k].trail_record()
     } else {
         TrailRecord::Blank
     }
 }
 
 // Writes the first sixteen records, where there are so many; the open frames are given with the outermost first.
-pub(crate) fn write_records(open: &[Frame], trail: &mut [TrailRecord])
-    ensures written { 16 ≤ length trail.old → trail.new ≡ trail_for (reverse open.now) ++ drop 16 trail.old }
+pub(crate) fn write_records(frames: &[Frame], trail: &mut [TrailRecord])
+    ensures written { 16 ≤ length trail.old → trail.new ≡ trail_for (reverse frames.now) ++ drop 16 trail.old }
     ensures short { length trail.old < 16 → trail.new ≡ trail.old }
 {
     if trail.len() < RECORDS {
         return;
     }
     for k in 0..RECORDS {
-        trail[k] = record_at(open, k);
+        trail[k] = record_at(frames, k);
     }
 }
 

@@ -1,3 +1,6 @@
+pub mod Rows
+pub mod Chaining
+pub mod Opening
 pub mod Conditions
 pub mod Equals
 pub mod Passing

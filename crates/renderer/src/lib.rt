@@ -2,5 +2,6 @@
 
 #![tactic(auto)]
 
+mod openings;
 mod guards;
 mod stdlib;

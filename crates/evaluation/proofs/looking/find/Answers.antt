@@ -1,4 +1,4 @@
-use Rattle.std.proofs.Common.{◌≡◌, ap, sym, ◌∙◌, subst}
+use Rattle.std.proofs.Common.{sym, subst}
 use Rattle.drawers.specs.Shown.{shows}
 use Rattle.held.specs.Scenes.{host_in}
 use Rattle.evaluation.specs.Values.{Found}

@@ -1,14 +1,8 @@
 use Rattle.std.proofs.Common.{◌≡◌, ap, sym, ◌∙◌, subst, map, Some, None}
 use Rattle.std.specs.Option.{option_map}
-use Rattle.nodes.specs.declared.exprs.Expr.{Expr}
-use Rattle.nodes.specs.declared.exprs.Expr.TheVariants.{Path}
-use Rattle.frames.specs.declared.met.Met.{Met}
-use Rattle.frames.specs.declared.met.Met.TheVariants as met
-use Rattle.held.specs.declared.value.Value.TheVariants as value_of
 use Rattle.frames.specs.Views.{around_in, met_of}
 use Rattle.drawers.specs.Shown.{shows}
 use Rattle.held.specs.Scenes.{host_in}
-use Rattle.meaning.specs.Looking.{walked}
 use Rattle.evaluation.specs.Steps.{step_in}
 use Rattle.evaluation.specs.Values.{Found, Reached}
 use Rattle.evaluation.proofs.Founds.{reached_literal, reached_path}
