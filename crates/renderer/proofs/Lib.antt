@@ -1,7 +1,7 @@
-pub mod Rows
 pub mod Chaining
-pub mod Opening
 pub mod Conditions
 pub mod Equals
+pub mod Opening
 pub mod Passing
+pub mod Rows
 pub mod Taking

@@ -1,4 +1,4 @@
 pub mod Acts
-pub mod Openings
 pub mod Guards
+pub mod Openings
 pub mod Running

@@ -2,6 +2,6 @@
 
 #![tactic(auto)]
 
-mod openings;
 mod guards;
+mod openings;
 mod stdlib;

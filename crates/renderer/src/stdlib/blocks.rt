@@ -1,3 +1,3 @@
-pub(crate) mod for_block;
 pub(crate) mod case_block;
+pub(crate) mod for_block;
 pub(crate) mod if_block;
