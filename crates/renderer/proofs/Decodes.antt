@@ -16,7 +16,8 @@ use Rattle.nodes.specs.declared.table.Node.TheVariants as node
 use Rattle.nodes.specs.Exprs.{Pool, expr_of, ◌so◌, where_so, only}
 use Rattle.nodes.specs.Trees.{leaf_of, block_of, guard_of, arm_of, arm_at, element_at, elements_of, arms_of}
 use Rattle.nodes.proofs.Options.{none_some, some_is, so_parts, where_parts, only_parts}
-use Rattle.renderer.specs.Running.{Spells, SpellsArms, SpellsArm}
+use Rattle.renderer.specs.Guards.{SpellsArm}
+use Rattle.renderer.specs.Running.{Spells, SpellsArms}
 
 both_parts : (a b : Bool) → (a && b) ≡ true → (a ≡ true) × (b ≡ true)
 both_parts true b h = (refl, h)

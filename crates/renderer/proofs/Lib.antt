@@ -9,3 +9,4 @@ pub mod Opening
 pub mod Passing
 pub mod Rows
 pub mod Runs
+pub mod Taking

@@ -31,7 +31,7 @@ use Rattle.renderer.specs.declared.flow.Flow.TheVariants.{Onward, Broken, Contin
 use Rattle.renderer.specs.declared.machine.Mode.{Mode}
 use Rattle.renderer.specs.declared.machine.Mode.TheVariants.{Elements, Ended, Between, Closing}
 use Rattle.renderer.specs.Flows.{flow_of}
-use Rattle.renderer.specs.Running.{Inside, items_of, left_of, more, after_body, after_block, resume, shut, next_visits, run, Spells, SpellsArm, SpellsArms, Framed, Holds, Going, mode_after, mode_after_visit}
+use Rattle.renderer.specs.Running.{Inside, items_of, left_of, more, after_body, after_block, resume, shut, next_visits, run, Spells, Framed, Holds, Going, mode_after, mode_after_visit}
 use Rattle.renderer.proofs.Decodes.{LeafAt, BlockAt, nothing_here}
 
 -- a fault goes through a block that is closed

@@ -5,8 +5,7 @@ use Rattle.tree.specs.Elements.{Tree, Arms}
 use Rattle.nodes.specs.declared.table.Node.{Node}
 use Rattle.nodes.specs.declared.table.Next.{Next}
 use Rattle.nodes.specs.Exprs.{Pool}
-use Rattle.nodes.specs.declared.table.Arm.{Arm}
-use Rattle.nodes.specs.Trees.{arm_of, elements_of, arms_of}
+use Rattle.nodes.specs.Trees.{elements_of, arms_of}
 use Rattle.frames.specs.declared.frame.Frame as code
 use Rattle.frames.specs.declared.frame.Manner as code_manner
 use Rattle.frames.specs.declared.frame.Manner.TheVariants.{Once, Each, Cells, Keeping, Watching}
@@ -89,11 +88,6 @@ pub record Spells (b : Pool) (ns : List Node) (room i e : ℕ) (t : Tree) : Type
 pub record SpellsArms (b : Pool) (ns : List Node) (next : Next) (room i e : ℕ) (r : Arms) : Type 0 where
   pub steps : ℕ
   pub is : arms_of b ns steps next room i e ≡ Some r
-
--- the arm whose node is at i, in a block that ends at e, is the first of these
-pub record SpellsArm (b : Pool) (ns : List Node) (a : Arm) (room i e : ℕ) (r : Arms) : Type 0 where
-  pub steps : ℕ
-  pub is : arm_of b ns (λ q x z. elements_of b ns steps q x z) (λ n q x z. arms_of b ns steps n q x z) room i e a ≡ Some r
 
 -- a frame whose list of elements ends at e
 pub record Framed (f : code.Frame) (e : ℕ) : Type 0 where
