@@ -9,4 +9,5 @@ pub mod Opening
 pub mod Passing
 pub mod Rows
 pub mod Runs
+pub mod Stepping
 pub mod Taking

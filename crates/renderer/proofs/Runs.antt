@@ -30,6 +30,7 @@ use Rattle.renderer.specs.declared.flow.Flow as code_flow
 use Rattle.renderer.specs.declared.flow.Flow.TheVariants.{Onward, Broken, Continued}
 use Rattle.renderer.specs.declared.machine.Mode.{Mode}
 use Rattle.renderer.specs.declared.machine.Mode.TheVariants.{Elements, Ended, Between, Closing}
+use Rattle.renderer.specs.Ends.{TargetFits}
 use Rattle.renderer.specs.Flows.{flow_of}
 use Rattle.renderer.specs.Running.{Inside, items_of, left_of, more, after_body, after_block, resume, shut, next_visits, run, Spells, Framed, Holds, Going, mode_after, mode_after_visit}
 use Rattle.renderer.proofs.Decodes.{LeafAt, BlockAt, nothing_here}
@@ -147,10 +148,10 @@ module _ (b : Pool) (ns : List Node) (stop : ℕ) (w : World) where
             (then_arms op d o ≡ around (manner_of f.manner) p around_here (visits (manner_of f.manner) (visit w (manner_of f.manner) p around_here (λ e'. render w body e')) (visited (manner_of f.manner) op) 1) d o) →
             Spells b ns (16 - length fs - 1) f.body f.end body →
             (f.place ≡ p) × (f.visit ≡ 0) × (f.next ≡ end) × (f.outer ≡ e) × (f.mark ≡ length o) →
-            map (item_of h) (items_of f) ≡ visited (manner_of f.manner) op → length (items_of f) ≡ f.times →
+            map (item_of h) (items_of f) ≡ visited (manner_of f.manner) op → length (items_of f) ≡ f.times → TargetFits 128 f.manner →
             Going b ns stop w Between f.end f.end (f ∷ fs) d o fin
         unfolding around
-        arm_taken f body took spelt (place, visit_is, next, outer, mark) items times =
+        arm_taken f body took spelt (place, visit_is, next, outer, mark) items times target =
             let m = manner_of f.manner in
             let same : ◌≡◌ {A = ℕ × ℕ × ℕ × List Held} (f.place, f.mark, f.visit, map (item_of h) (items_of f)) (p, length o, 0, visited m op) = λ i. (place i, mark i, visit_is i, items i) in
             record {
@@ -158,7 +159,7 @@ module _ (b : Pool) (ns : List Node) (stop : ℕ) (w : World) where
               inside = record { body = body; rest = x.rest } ∷ g.inside;
               spelt = record { steps = 0; is = ap (λ c. only c done) (eq-eqb f.end f.end refl) };
               held = (
-                record { stop = refl; times = times },
+                record { stop = refl; times = times; target = target },
                 subst (λ r. Spells b ns r f.body f.end body) (omega (arith, x.some)) spelt,
                 subst (λ y. Spells b ns (16 - length fs) y f.outer x.rest) (sym next) (subst (λ y. Spells b ns (16 - length fs) end y x.rest) (sym outer) x.spelt),
                 subst (λ y. Holds b ns stop fs g.inside y) (sym outer) g.held,
@@ -261,7 +262,7 @@ module _ (b : Pool) (ns : List Node) (stop : ℕ) (w : World) where
           list = t.body;
           inside = t ∷ ts;
           spelt = k.1;
-          held = (record { stop = refl; times = k.0.times }, k.1, k.2, k.3);
+          held = (record { stop = refl; times = k.0.times; target = k.0.target }, k.1, k.2, k.3);
           comes = sym (entered_then x o' t ts (omega (arith, lt, k.0.times)) is (subst (λ i. enters w m i f.place outside d o ≡ step d o' (gives tt)) same did)) ∙ r;
         }
 

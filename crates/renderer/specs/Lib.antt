@@ -4,5 +4,7 @@ pub mod Ends
 pub mod Flows
 pub mod Guards
 pub mod Leaves
+pub mod Machines
 pub mod Openings
 pub mod Running
+pub mod Visiting
