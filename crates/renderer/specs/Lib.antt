@@ -1,4 +1,5 @@
 pub mod Acts
+pub mod Arms
 pub mod Costs
 pub mod Ends
 pub mod Flows

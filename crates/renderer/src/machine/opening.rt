@@ -40,6 +40,7 @@ pub(crate) fn seen<'a>(opened: Opened<'a>) -> Seen<'a>
 }
 
 /// How an arm is visited: in which manner, to what, and how often.
+#[derive(Clone, Copy)]
 pub(crate) struct Visits {
     pub(crate) manner: Manner,
     pub(crate) row: Window<AnyRow>,

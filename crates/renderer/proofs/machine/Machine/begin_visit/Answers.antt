@@ -1,23 +1,18 @@
-use Rattle.std.proofs.Common.{rules, ◌≡◌, ◌<◌, ℕ, ◌+◌, ◌-◌, ◌*◌, ◌≤◌, length, ◌/◌, ◌%◌, Bool, true, false, nat_eq, nat_lt, List, [], ◌∷◌, ◌++◌, slice_index_or, slice_set, bit_and, bit_or, Fits, w8, w32, w64, Bor, MutBor}
-use Rattle.banks.specs.Meaning.{Meaning}
-use Rattle.drawers.specs.Shown.{shows}
-use Rattle.meaning.specs.Acts.{Step}
-use Rattle.meaning.specs.Leaves.{Flow as Came}
-use Rattle.meaning.specs.Things.{Drawers as Things}
-use Rattle.held.specs.declared.scenes.Scene.{Scene}
-use Rattle.renderer.specs.declared.machine.Mode.TheVariants.{Ended, Between, Closing}
-use Rattle.renderer.specs.declared.machine.Move.TheVariants.{On}
-use Rattle.renderer.specs.Machines.{next_item, steps_left, Stands, Stepped}
+use Rattle.std.proofs.Common.{sym, ◌∙◌}
+use Rattle.renderer.specs.Acts.{world}
+use Rattle.renderer.proofs.Stepping.{top_none, through_between, no_more, entered_on, entering_fails}
 use Rattle.renderer.proofs.machine.Machine.begin_visit.Goals as goal
 
--- src/machine/visits.rt:65:13
 pub returns-in_default-next_item-clause-did : goal.returns-in_default-next_item-clause-did
-returns-in_default-next_item-clause-did c = ?
+returns-in_default-next_item-clause-did c s m limit stop fin d mode h =
+    no_more s m limit stop fin c.args.self.now d c.args.out.now h c.in-Some.frame (sym c.top.ensures ∙ c.in-Some.is) mode (sym c.next_item.ensures ∙ c.in_default-next_item.is)
 
--- src/machine/visits.rt:56:5
 pub returns-in-Ok-clause-did : goal.returns-in-Ok-clause-did
-returns-in-Ok-clause-did c = ?
+returns-in-Ok-clause-did c s m limit stop fin d mode h =
+    entered_on s m limit stop fin c.args.self.now d c.args.out.now h c.in-Some.frame (sym c.top.ensures ∙ c.in-Some.is) mode c.in-Some-next_item.item (sym c.next_item.ensures ∙ c.in-Some-next_item.is) c.in-Ok.filled c.enter.new.out c.next_visit.new.self
+    c.next_visit.ensures.frames (c.in-Ok.ensures (world s m limit) c.in-Some.frame.place _ d (sym h.long) h.within)
 
--- src/machine/visits.rt:56:5
 pub returns-in-Err-clause-did : goal.returns-in-Err-clause-did
-returns-in-Err-clause-did c = ?
+returns-in-Err-clause-did c s m limit stop fin d mode h =
+    entering_fails s m limit stop fin c.args.self.now d c.args.out.now h c.in-Some.frame (sym c.top.ensures ∙ c.in-Some.is) mode c.in-Some-next_item.item (sym c.next_item.ensures ∙ c.in-Some-next_item.is) c.in-Err.stopped c.enter.new.out c.fail_outside.new.self _
+    c.fail_outside.ensures.fault c.fail_outside.ensures.frames c.fail_outside.ensures.cut (c.in-Err.ensures (world s m limit) c.in-Some.frame.place _ d (sym h.long) h.within)
