@@ -19,7 +19,7 @@ use Rattle.nodes.proofs.Options.{none_some, some_is, so_parts, where_parts, only
 use Rattle.renderer.specs.Guards.{SpellsArm}
 use Rattle.renderer.specs.Running.{Spells, SpellsArms}
 
-both_parts : (a b : Bool) → (a && b) ≡ true → (a ≡ true) × (b ≡ true)
+pub both_parts : (a b : Bool) → (a && b) ≡ true → (a ≡ true) × (b ≡ true)
 both_parts true b h = (refl, h)
 both_parts false b h = let z : ◌≡◌ {A = ℕ} 0 1 = cc in absurd (omega arith)
 

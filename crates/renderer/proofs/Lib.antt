@@ -1,3 +1,4 @@
+pub mod Arming
 pub mod Chaining
 pub mod Conditions
 pub mod Costs
