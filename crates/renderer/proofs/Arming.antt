@@ -67,7 +67,7 @@ arm_falls c d t v a is room in_list behind le in_block few frames mode at end =
     omega (arith, before, after, open_falls c.at c.end (open_in c.frames) (arm_frame c t v a) refl (omega (arith, few)) behind le in_block in_list refl room)
 
 -- the items of an arm's visits
-shown_opening : (h : Host) (x : Opened) → map (item_of h) (shown_items x) ≡ Rattle.meaning.specs.Blocks.items (opening_of h x)
+pub shown_opening : (h : Host) (x : Opened) → map (item_of h) (shown_items x) ≡ Rattle.meaning.specs.Blocks.items (opening_of h x)
 shown_opening h found.Bare = refl
 shown_opening h (found.Target v) = refl
 shown_opening h (found.Loop w n) = refl

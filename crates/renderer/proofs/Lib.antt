@@ -6,6 +6,7 @@ pub mod Decodes
 pub mod Endings
 pub mod Equals
 pub mod Leaving
+pub mod Listing
 pub mod Opening
 pub mod Passing
 pub mod Rows

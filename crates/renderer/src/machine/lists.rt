@@ -36,9 +36,10 @@ impl Machine {
         leaf: Leaf,
         out: &mut [u8],
     ) -> Move
-        requires { self.old.at < self.old.end }
-        ensures did { (limit stop : ℕ) (fin : Step Came) → self.old.mode ≡ Elements → slice_get scene.entry.book.nodes.now self.old.at ≡ Some (leaf_node place leaf) → Stands scene.entry (B.Bank.meaning bank.old) limit stop fin self.old (shows drawers.old) out.old → Stepped scene.entry (B.Bank.meaning bank.old) limit stop fin self.new (shows drawers.new) out.new result }
-        ensures less { self.old.mode ≡ Elements → result ≡ On → steps_left self.new < steps_left self.old }
+        requires elements { self.old.mode ≡ Elements }
+        requires within { self.old.at < self.old.end }
+        ensures did { (limit stop : ℕ) (fin : Step Came) → slice_get scene.entry.book.nodes.now self.old.at ≡ Some (leaf_node place leaf) → Stands scene.entry (B.Bank.meaning bank.old) limit stop fin self.old (shows drawers.old) out.old → Stepped scene.entry (B.Bank.meaning bank.old) limit stop fin self.new (shows drawers.new) out.new result }
+        ensures less { result ≡ On → steps_left self.new < steps_left self.old }
         ensures same { B.Bank.meaning bank.new ≡ B.Bank.meaning bank.old }
     {
         match render_leaf(scene, &self.frames, drawers, bank, leaf, out, self.filled) {
@@ -54,9 +55,10 @@ impl Machine {
 
     // Opens a block that is no `case`, and takes an arm.
     fn open(&mut self, scene: Scene, drawers: &Drawers, tag: Tag, arm: Arm) -> Move
-        requires { block_fits self.old.at self.old.end (length (open_in self.old.frames)) tag.end ≡ true }
-        ensures did { (m : Meaning) (limit stop : ℕ) (fin : Step Came) (out : List ℕ) → self.old.mode ≡ Elements → slice_get scene.entry.book.nodes.now self.old.at ≡ Some (open_node tag.place tag.block arm tag.end) → Stands scene.entry m limit stop fin self.old (shows drawers.now) out → Stepped scene.entry m limit stop fin self.new (shows drawers.now) out result }
-        ensures less { self.old.mode ≡ Elements → result ≡ On → steps_left self.new < steps_left self.old }
+        requires elements { self.old.mode ≡ Elements }
+        requires fits { block_fits self.old.at self.old.end (length (open_in self.old.frames)) tag.end ≡ true }
+        ensures did { (m : Meaning) (limit stop : ℕ) (fin : Step Came) (out : List ℕ) → slice_get scene.entry.book.nodes.now self.old.at ≡ Some (open_node tag.place tag.block arm tag.end) → Stands scene.entry m limit stop fin self.old (shows drawers.now) out → Stepped scene.entry m limit stop fin self.new (shows drawers.now) out result }
+        ensures less { result ≡ On → steps_left self.new < steps_left self.old }
     {
         match open_block(scene, &self.frames, drawers, tag.block) {
             Ok(opened) => {
@@ -77,9 +79,10 @@ impl Machine {
         then: Next,
         end: usize,
     ) -> Move
-        requires { block_fits self.old.at self.old.end (length (open_in self.old.frames)) end ≡ true }
-        ensures did { (m : Meaning) (limit stop : ℕ) (fin : Step Came) (out : List ℕ) → self.old.mode ≡ Elements → slice_get scene.entry.book.nodes.now self.old.at ≡ Some (case_node place target then end) → Stands scene.entry m limit stop fin self.old (shows drawers.now) out → Stepped scene.entry m limit stop fin self.new (shows drawers.now) out result }
-        ensures less { self.old.mode ≡ Elements → result ≡ On → steps_left self.new < steps_left self.old }
+        requires elements { self.old.mode ≡ Elements }
+        requires fits { block_fits self.old.at self.old.end (length (open_in self.old.frames)) end ≡ true }
+        ensures did { (m : Meaning) (limit stop : ℕ) (fin : Step Came) (out : List ℕ) → slice_get scene.entry.book.nodes.now self.old.at ≡ Some (case_node place target then end) → Stands scene.entry m limit stop fin self.old (shows drawers.now) out → Stepped scene.entry m limit stop fin self.new (shows drawers.now) out result }
+        ensures less { result ≡ On → steps_left self.new < steps_left self.old }
     {
         let tag = Tag {
             place,
@@ -103,8 +106,9 @@ impl Machine {
         bank: &mut B,
         out: &mut [u8],
     ) -> Move
-        ensures did { (limit stop : ℕ) (fin : Step Came) → self.old.mode ≡ Elements → Stands scene.entry (B.Bank.meaning bank.old) limit stop fin self.old (shows drawers.old) out.old → Stepped scene.entry (B.Bank.meaning bank.old) limit stop fin self.new (shows drawers.new) out.new result }
-        ensures less { self.old.mode ≡ Elements → result ≡ On → steps_left self.new < steps_left self.old }
+        requires { self.old.mode ≡ Elements }
+        ensures did { (limit stop : ℕ) (fin : Step Came) → Stands scene.entry (B.Bank.meaning bank.old) limit stop fin self.old (shows drawers.old) out.old → Stepped scene.entry (B.Bank.meaning bank.old) limit stop fin self.new (shows drawers.new) out.new result }
+        ensures less { result ≡ On → steps_left self.new < steps_left self.old }
         ensures same { B.Bank.meaning bank.new ≡ B.Bank.meaning bank.old }
     {
         let Some(node) = self.node(scene.book.nodes) else {
