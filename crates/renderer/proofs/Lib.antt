@@ -13,3 +13,4 @@ pub mod Rows
 pub mod Runs
 pub mod Stepping
 pub mod Taking
+pub mod Whole

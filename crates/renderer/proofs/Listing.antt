@@ -118,13 +118,13 @@ like_block b (For v r limit offset reversed) t few is =
     let (row, a, more) = so_parts (row_of b r) (λ x. if_any (expr_of b) limit so λ l. if_any (expr_of b) offset so λ o. only (ltb v b.names) (tree.for_block v x l o reversed)) t is in
     let (l, c, behind) = so_parts (if_any (expr_of b) limit) (λ l. if_any (expr_of b) offset so λ o. only (ltb v b.names) (tree.for_block v row l o reversed)) t more in
     let (o, e, last) = so_parts (if_any (expr_of b) offset) (λ o. only (ltb v b.names) (tree.for_block v row l o reversed)) t behind in
-    subst (VisitedLike (For v r limit offset reversed)) ((only_parts (ltb v b.names) (tree.for_block v row l o reversed) t last).1) (like_for v r limit offset reversed row l o)
+    subst (VisitedLike (For v r limit offset reversed)) {x = tree.for_block v row l o reversed} ((only_parts (ltb v b.names) (tree.for_block v row l o reversed) t last).1) (like_for v r limit offset reversed row l o)
 like_block b (Tablerow v r cols limit offset) t few is =
     let (row, a, more) = so_parts (row_of b r) (λ x. if_any (expr_of b) cols so λ n. if_any (expr_of b) limit so λ l. if_any (expr_of b) offset so λ o. only (ltb v b.names) (tree.tablerow_block v x n l o)) t is in
     let (n, c, behind) = so_parts (if_any (expr_of b) cols) (λ n. if_any (expr_of b) limit so λ l. if_any (expr_of b) offset so λ o. only (ltb v b.names) (tree.tablerow_block v row n l o)) t more in
     let (l, e, last) = so_parts (if_any (expr_of b) limit) (λ l. if_any (expr_of b) offset so λ o. only (ltb v b.names) (tree.tablerow_block v row n l o)) t behind in
     let (o, f, end) = so_parts (if_any (expr_of b) offset) (λ o. only (ltb v b.names) (tree.tablerow_block v row n l o)) t last in
-    subst (VisitedLike (Tablerow v r cols limit offset)) ((only_parts (ltb v b.names) (tree.tablerow_block v row n l o) t end).1) (like_table v r cols limit offset row n l o)
+    subst (VisitedLike (Tablerow v r cols limit offset)) {x = tree.tablerow_block v row n l o} ((only_parts (ltb v b.names) (tree.tablerow_block v row n l o) t end).1) (like_table v r cols limit offset row n l o)
 like_block b (Capture n) t few is =
     let (lt, same) = only_parts (ltb n b.names) (tree.capture_block n) t is in
     let below = ltb-true n b.names lt in

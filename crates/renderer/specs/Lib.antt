@@ -7,5 +7,6 @@ pub mod Guards
 pub mod Leaves
 pub mod Machines
 pub mod Openings
+pub mod Rendered
 pub mod Running
 pub mod Visiting

@@ -4,13 +4,17 @@ ghost use Rattle.frames.specs.Views.{open_in};
 ghost use Rattle.renderer.specs.declared.machine.Mode.TheVariants.{Elements};
 
 use crate::flow::Flow;
+use banks::bank::Bank;
+use drawers::things::Drawers;
 use frames::stack::Frames;
 use held::faults::Fault;
+use held::scenes::Scene;
 
 mod arms;
 mod lists;
 mod modes;
 mod opening;
+pub(crate) mod running;
 mod under_way;
 mod visits;
 
@@ -79,5 +83,34 @@ impl Machine {
         self.filled = self.frames.cut_back(self.filled);
         self.frames.close();
         Move::Fault { fault, place }
+    }
+}
+
+impl Machine {
+    ghost use Rattle.std.specs.Prelude.{◌<◌, ℕ};
+    ghost use Rattle.drawers.specs.Shown.{shows};
+    ghost use Rattle.meaning.specs.Acts.{Step};
+    ghost use Rattle.meaning.specs.Leaves.{Flow as Came};
+    ghost use Rattle.renderer.specs.declared.machine.Move.TheVariants.{On};
+    ghost use Rattle.renderer.specs.Machines.{steps_left, Stands, Stepped};
+
+    // One step of the rendering.
+    fn step<B: Bank>(
+        &mut self,
+        scene: Scene,
+        drawers: &mut Drawers,
+        bank: &mut B,
+        out: &mut [u8],
+    ) -> Move
+        ensures did { (limit stop : ℕ) (fin : Step Came) → Stands scene.entry (B.Bank.meaning bank.old) limit stop fin self.old (shows drawers.old) out.old → Stepped scene.entry (B.Bank.meaning bank.old) limit stop fin self.new (shows drawers.new) out.new result }
+        ensures less { result ≡ On → steps_left self.new < steps_left self.old }
+        ensures same { B.Bank.meaning bank.new ≡ B.Bank.meaning bank.old }
+    {
+        match self.mode {
+            Mode::Elements => self.element(scene, drawers, bank, out),
+            Mode::Ended(flow) => self.end_visit(flow, out),
+            Mode::Between => self.begin_visit(out),
+            Mode::Closing(flow) => self.close_block(flow, drawers, out),
+        }
     }
 }
