@@ -1,4 +1,9 @@
+pub mod Assigning
 pub mod Chaining
+pub mod Counting
+pub mod Cycling
+pub mod Doing
 pub mod Leaving
 pub mod Opening
 pub mod Rows
+pub mod Writing

@@ -7,7 +7,8 @@ use Rattle.nodes.specs.declared.table.Leaf.TheVariants.{Assign}
 use Rattle.renderer.specs.Leaves.{LeafDone}
 use Rattle.std.specs.Option.{option_map}
 use Rattle.held.specs.declared.faults.Fault.TheVariants.{TooLong}
-use Rattle.renderer.proofs.Leaving.{not_there, is_there, assign_done, assign_long, assign_stops}
+use Rattle.renderer.proofs.Assigning.{assign_done, assign_long, assign_stops}
+use Rattle.renderer.proofs.Doing.{not_there, is_there}
 use Rattle.renderer.proofs.stdlib.tags.assign_tag.assign.Goals as goal
 
 pub returns-in_err-came-clause-done : goal.returns-in_err-came-clause-done

@@ -9,7 +9,8 @@ use Rattle.held.specs.declared.faults.Fault.TheVariants.{PastValues}
 use Rattle.meaning.specs.Things.{cycle_name, altered, with_position}
 use Rattle.nodes.specs.declared.table.Leaf.TheVariants.{Cycle}
 use Rattle.renderer.specs.Leaves.{LeafDone}
-use Rattle.renderer.proofs.Leaving.{not_there, is_there, read_there, read_past, is_many, cycle_none, cycle_past, cycle_stops, cycle_done, Turned}
+use Rattle.renderer.proofs.Cycling.{read_there, read_past, is_many, cycle_none, cycle_past, cycle_stops, cycle_done, Turned}
+use Rattle.renderer.proofs.Doing.{not_there, is_there}
 use Rattle.renderer.proofs.stdlib.tags.cycle_tag.cycle.Goals as goal
 
 pub returns-then-is_empty : goal.returns-then-is_empty
