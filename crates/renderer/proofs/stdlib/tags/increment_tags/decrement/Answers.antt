@@ -1,4 +1,4 @@
-use Rattle.std.proofs.Common.{◌≡◌, ap, sym, ◌∙◌, subst, Ok, Err, Some, None, to_z-of_z, to_z, of_z, w64, ◌-ℤ◌, pos}
+use Rattle.std.proofs.Common.{ap, sym, ◌∙◌, subst, Err, to_z-of_z, to_z, of_z, w64, ◌-ℤ◌, pos}
 use Rattle.std.proofs.lemmas.Result.{err_from_is_err_and}
 use Rattle.drawers.specs.Shown.{shows}
 use Rattle.held.specs.declared.faults.Fault.TheVariants.{FullCounter}
