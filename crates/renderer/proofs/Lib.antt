@@ -4,3 +4,4 @@ pub mod Opening
 pub mod Conditions
 pub mod Equals
 pub mod Passing
+pub mod Putting

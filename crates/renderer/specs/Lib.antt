@@ -1,4 +1,5 @@
 pub mod Acts
+pub mod Calls
 pub mod Openings
 pub mod Guards
 pub mod Running

@@ -2,6 +2,7 @@
 
 #![tactic(auto)]
 
+mod calls;
 mod guards;
 mod openings;
 mod stdlib;
