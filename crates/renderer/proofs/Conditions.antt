@@ -22,13 +22,13 @@ use Rattle.frames.specs.declared.met.Met.{Met}
 use Rattle.frames.specs.Views.{around_in, met_of}
 use Rattle.evaluation.specs.Values.{Reached, Evaluated}
 use Rattle.comparisons.specs.Ends.{Ends}
-use Rattle.tree.specs.Conditions.{Test, exists, compares, Condition, only as lone}
+use Rattle.tree.specs.Conditions.{Test, exists, Condition, only as lone}
 use Rattle.meaning.specs.Things.{Drawers}
 use Rattle.meaning.specs.Frames.{Frames}
 use Rattle.meaning.specs.Acts.{step, gives, go_on, still, pure, ◌and_then◌}
-use Rattle.meaning.specs.Looking.{World, eval, reach}
+use Rattle.meaning.specs.Looking.{World, eval}
 use Rattle.meaning.specs.Tests.{there, compared, tested, judged}
-use Rattle.renderer.specs.Guards.{Answered, Compared, Tested, Judged}
+use Rattle.renderer.specs.Guards.{Answered, Compared, Tested}
 
 module _ (s : Scene) (fs : code.Frames) (d : Drawers) where
   abbrev e : Frames
@@ -141,9 +141,6 @@ module _ (s : Scene) (fs : code.Frames) (d : Drawers) where
     pub rest : Condition
     pub is : condition_of (pool_of s) s.book.nodes.now steps i end ≡ Some rest
     pub same : (w : World) (p : ℕ) (o : List ℕ) → Fits w s → judged w c p e d o ≡ judged w rest p e d o
-
-  pub left_all : (k i end : ℕ) (c : Condition) → condition_of (pool_of s) s.book.nodes.now k i end ≡ Some c → Left i end c
-  left_all k i end c h = record { steps = k; rest = c; is = h; same = λ w p o fits. refl }
 
   pub left_more : (i end : ℕ) (c : Condition) (n j : Node) (y g : Bool) → Left i end c → slice_get s.book.nodes.now i ≡ Some n → Tested s fs d n (Ok y) →
       slice_get s.book.nodes.now (i + 1) ≡ Some j → (i + 1 ≡ end → ⊥) → (j ≡ node.And → g ≡ y) × (j ≡ node.Or → g ≡ not y) → g ≡ true → Left (i + 2) end c

@@ -1,14 +1,13 @@
 -- The values of a `when`, one by one.
-use Rattle.std.proofs.Common.{◌≡◌, ℕ, ◌+◌, Bool, true, false, cond, List, [], ◌∷◌, length, take, drop, Some, Ok, Err, refl, ap, ◌∙◌, sym, arith}
+use Rattle.std.proofs.Common.{◌≡◌, ℕ, Bool, true, false, cond, List, [], ◌∷◌, length, take, drop, Some, Ok, Err, refl, ap, ◌∙◌, sym, arith}
 use Rattle.nodes.specs.declared.exprs.Expr.{Expr}
 use Rattle.nodes.specs.declared.exprs.Span.{Span}
-use Rattle.nodes.specs.Exprs.{◌so◌, each, entries, expr_of, values_of}
-use Rattle.nodes.proofs.Options.{none_some, some_is, so_parts, only_parts}
+use Rattle.nodes.specs.Exprs.{each, entries, expr_of, values_of}
+use Rattle.nodes.proofs.Options.{some_is, so_parts, only_parts}
 use Rattle.std.specs.Borrow.{Bor}
 use Rattle.held.specs.declared.faults.Fault.{Fault}
 use Rattle.held.specs.declared.scenes.Scene.{Scene}
 use Rattle.held.specs.declared.value.Value.{Value}
-use Rattle.held.specs.Faults.{ended}
 use Rattle.held.specs.Records.{held_in}
 use Rattle.held.specs.Scenes.{host_in, pool_of, Fits}
 use Rattle.frames.specs.declared.stack.Frames as code

@@ -1,17 +1,15 @@
 -- Guards by what they ask.
-use Rattle.std.proofs.Common.{◌≡◌, ℕ, zero, suc, ◌+◌, ◌<◌, ◌≤◌, min, nat_lt, ◌==◌, Bool, not, List, Some, Ok, Err, Result, refl, ap, ◌∙◌, sym, subst, arith}
+use Rattle.std.proofs.Common.{◌≡◌, ℕ, zero, suc, ◌+◌, ◌<◌, ◌≤◌, min, nat_lt, ◌==◌, Bool, not, Some, Ok, Err, Result, ap, ◌∙◌, sym, arith}
 use Rattle.std.proofs.lemmas.Bool.Decides.{nat_tests}
 use Rattle.nodes.specs.declared.exprs.Span.{Span}
 use Rattle.nodes.specs.declared.table.Arm.{Arm}
 use Rattle.nodes.specs.declared.table.Guard.TheVariants as guard
-use Rattle.nodes.specs.Exprs.{values_of}
 use Rattle.nodes.specs.Trees.{condition_of, guard_of}
 use Rattle.nodes.proofs.Options.{none_some, where_parts, only_parts, mapped_parts}
 use Rattle.held.specs.declared.faults.Fault.{Fault}
 use Rattle.held.specs.declared.scenes.Scene.{Scene}
-use Rattle.held.specs.Faults.{ended}
 use Rattle.held.specs.Records.{held_in}
-use Rattle.held.specs.Scenes.{host_in, pool_of, Fits}
+use Rattle.held.specs.Scenes.{host_in, pool_of}
 use Rattle.frames.specs.declared.stack.Frames as code
 use Rattle.frames.specs.Views.{around_in}
 use Rattle.tree.specs.Conditions.{Condition}
@@ -19,11 +17,9 @@ use Rattle.tree.specs.Elements as tree
 use Rattle.meaning.specs.Things.{Drawers}
 use Rattle.meaning.specs.Frames.{Frames}
 use Rattle.meaning.specs.Acts.{step, gives, go_on, still, pure, ◌and_then◌}
-use Rattle.meaning.specs.Looking.{World}
-use Rattle.meaning.specs.Openings.{Opening}
 use Rattle.meaning.specs.Blocks.{passes, one_equal}
 use Rattle.renderer.specs.declared.guards.Seen.{Seen}
-use Rattle.renderer.specs.Guards.{Sees, Judged, OneEqual, Passed}
+use Rattle.renderer.specs.Guards.{Judged, OneEqual, Passed}
 
 module _ (s : Scene) (fs : code.Frames) (d : Drawers) where
   abbrev e : Frames

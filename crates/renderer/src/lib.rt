@@ -3,6 +3,10 @@
 #![tactic(auto)]
 
 mod calls;
+mod ends;
+mod flow;
 mod guards;
+mod leaves;
+mod machine;
 mod openings;
 mod stdlib;

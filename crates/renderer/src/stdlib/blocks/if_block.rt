@@ -1,5 +1,5 @@
 // Conditions of `if`, `unless` and `elsif`.
-ghost use Rattle.std.specs.Prelude.{◌≡◌, not};
+ghost use Rattle.std.specs.Prelude.{◌≡◌, false, not};
 ghost use Rattle.std.specs.Option.{option_map};
 ghost use Rattle.drawers.specs.Shown.{shows};
 ghost use Rattle.frames.specs.Views.{met_of};
@@ -63,7 +63,8 @@ fn test(scene: Scene, frames: &Frames, drawers: &Drawers, node: Node) -> Result<
 
 // Whether the tests behind a join are needed, after one that came out so: `and` needs them after one that passed, `or` after one that failed.
 fn goes_on(join: Node, passed: bool) -> bool
-    ensures { (join ≡ node_of.And → result ≡ passed) × (join ≡ node_of.Or → result ≡ not passed) }
+    ensures joins { (join ≡ node_of.And → result ≡ passed) × (join ≡ node_of.Or → result ≡ not passed) }
+    ensures other { (join ≡ node_of.And → ⊥) → (join ≡ node_of.Or → ⊥) → result ≡ false }
 {
     match join {
         Node::And => passed,

@@ -1,4 +1,4 @@
-use Rattle.std.proofs.Common.{◌≡◌, ℕ, List, length, Some}
+use Rattle.std.proofs.Common.{◌≡◌, List, length, Some}
 use Rattle.drawers.specs.Shown.{shows}
 use Rattle.nodes.specs.Exprs.{values_of}
 use Rattle.held.specs.Records.{held_in}

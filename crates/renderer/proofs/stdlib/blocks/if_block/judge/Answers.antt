@@ -1,4 +1,4 @@
-use Rattle.std.proofs.Common.{◌≡◌, ◌+◌, Some, Ok, Err, ap, refl, sym, ◌∙◌, subst, length}
+use Rattle.std.proofs.Common.{◌+◌, Err, ap, refl, sym, ◌∙◌, subst, length}
 use Rattle.std.proofs.lemmas.Option.{slice_get_read, slice_get_past}
 use Rattle.std.proofs.lemmas.Result.{err_from_is_err_and}
 use Rattle.nodes.proofs.Options.{none_some}
@@ -46,7 +46,7 @@ returns-then-i-end c n t given =
           left_last s c.args.frames.now d c.loop-node.i c.args.end t c.in-Some.node.now c.in_ok-passed.passed left at tested (λ j x. w.if-i-end.true)
       | then-i-end-via-else-i-end+then-not-more w ↦
           left_short s c.args.frames.now d c.loop-node.i c.args.end t c.in-Some.node.now c.in-Some-get.join.now c.in_ok-passed.passed c.goes_on-more.result left at tested there
-          c.goes_on-more.ensures w.if-not-more.true
+          c.goes_on-more.ensures.joins w.if-not-more.true
     ]
 
 pub loop-node-preserved : goal.loop-node-preserved
@@ -58,7 +58,7 @@ loop-node-preserved c n t given =
     let there = slice_get_read ns (length ns) (c.loop-node.i + 1) c.in-Some-get.join.now refl c.in-Some-get.ensures.lookup.3.0 c.in-Some-get.ensures.lookup.1 in
     let tested = subst (Tested s c.args.frames.now d c.in-Some.node.now) c.in_ok-passed.was c.test.ensures in
     left_more s c.args.frames.now d c.loop-node.i c.args.end t c.in-Some.node.now c.in-Some-get.join.now c.in_ok-passed.passed c.goes_on-more.result (c.loop-node.invariant n t given) at tested there
-    c.if-i-end.false c.goes_on-more.ensures c.if-not-more.false
+    c.if-i-end.false c.goes_on-more.ensures.joins c.if-not-more.false
 
 pub returns : goal.returns
 returns c n t given =

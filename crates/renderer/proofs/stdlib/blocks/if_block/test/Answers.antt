@@ -1,4 +1,4 @@
-use Rattle.std.proofs.Common.{◌≡◌, Ok, sym, subst}
+use Rattle.std.proofs.Common.{Ok, sym, subst}
 use Rattle.drawers.specs.Shown.{shows}
 use Rattle.renderer.specs.Guards.{Tested}
 use Rattle.renderer.proofs.Conditions.{tested_there, tested_compared}
