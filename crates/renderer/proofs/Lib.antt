@@ -6,6 +6,7 @@ pub mod Endings
 pub mod Equals
 pub mod Leaving
 pub mod Opening
+pub mod Paging
 pub mod Passing
 pub mod Putting
 pub mod Rows

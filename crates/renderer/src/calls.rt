@@ -10,6 +10,7 @@ ghost use Rattle.renderer.specs.Calls.{number_of, datum_of, named, PutDone};
 use drawers::kept::keep;
 use drawers::things::Drawers;
 use evaluation::names::part_in;
+use held::faults::Fault;
 use held::value::Value;
 use nodes::book::Book;
 use sheet::sheet::Sheet;
@@ -32,6 +33,13 @@ pub enum Refused {
     NotPut,
     /// `render`: there is no such template, or the trail has fewer than sixteen records.
     NotRendered,
+}
+
+/// A fault, and the place of its element.
+#[derive(Clone, Copy, Debug, PartialEq, Eq)]
+pub struct Faulted {
+    pub fault: Fault,
+    pub place: usize,
 }
 
 impl Refused {
