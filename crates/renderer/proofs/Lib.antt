@@ -1,7 +1,13 @@
 pub mod Chaining
 pub mod Conditions
+pub mod Costs
+pub mod Decodes
+pub mod Endings
 pub mod Equals
+pub mod Leaving
 pub mod Opening
 pub mod Passing
+pub mod Putting
 pub mod Rows
+pub mod Runs
 pub mod Taking

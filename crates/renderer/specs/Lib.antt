@@ -1,4 +1,10 @@
 pub mod Acts
+pub mod Calls
+pub mod Openings
+pub mod Costs
+pub mod Ends
+pub mod Flows
 pub mod Guards
+pub mod Leaves
 pub mod Openings
 pub mod Running

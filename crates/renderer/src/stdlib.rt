@@ -1,1 +1,3 @@
 pub(crate) mod blocks;
+pub(crate) mod output;
+pub(crate) mod tags;
