@@ -1,6 +1,5 @@
 pub mod Acts
 pub mod Calls
-pub mod Openings
 pub mod Costs
 pub mod Ends
 pub mod Flows
