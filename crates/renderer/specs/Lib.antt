@@ -1,5 +1,9 @@
 pub mod Acts
+pub mod Calls
+pub mod Costs
+pub mod Ends
 pub mod Flows
+pub mod Guards
 pub mod Leaves
 pub mod Openings
 pub mod Running

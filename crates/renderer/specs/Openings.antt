@@ -26,7 +26,7 @@ use Rattle.meaning.specs.Things.{Drawers, Held}
 use Rattle.meaning.specs.Acts.{Act, step}
 use Rattle.meaning.specs.Frames.{Frames}
 use Rattle.meaning.specs.Looking.{World}
-use Rattle.meaning.specs.Openings.{Opening, bare, target, window, table, gone_over, number_if, counted_row, opened}
+use Rattle.meaning.specs.Openings.{Opening, bare, target, window, table, gone_over, number_if, counted_row, laid_out, opened}
 
 -- the values of a row
 abbrev pub row_items : Host → AnyRow → List Held
@@ -59,6 +59,11 @@ Answers m f e d r = (p : ℕ) (o : List ℕ) → m p d o ≡ step d o (ended f r
 
 abbrev pub RangeMade : ℤ → ℤ → Result AnyRow Fault → Type 0
 RangeMade a b r = (h : Host) (e : Frames) (d : Drawers) → Answers (λ p. counted_row a b p e) (row_items h) e d r
+
+-- a table over a window, whose count of items is `n`
+abbrev pub LaidOut : Window AnyRow → ℕ → Option ℤ → Result Opened Fault → Type 0
+LaidOut w n k r =
+    n ≡ length (items_of w) → CountedIf r × ((h : Host) (e : Frames) (d : Drawers) → Answers (λ p. laid_out (map (item_of h) (items_of w)) k p e) (opening_of h) e d r)
 
 module _ (s : Scene) (fs : code.Frames) (d : Drawers) where
   abbrev pub around : Frames

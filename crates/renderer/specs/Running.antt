@@ -7,6 +7,13 @@ use Rattle.nodes.specs.declared.table.Next.{Next}
 use Rattle.nodes.specs.Exprs.{Pool}
 use Rattle.nodes.specs.Trees.{elements_of, arms_of}
 use Rattle.frames.specs.declared.frame.Frame as code
+use Rattle.frames.specs.declared.frame.Manner as code_manner
+use Rattle.frames.specs.declared.frame.Manner.TheVariants.{Once, Each, Cells, Keeping, Watching}
+use Rattle.renderer.specs.declared.flow.Flow as code_flow
+use Rattle.renderer.specs.declared.flow.Flow.TheVariants.{Onward, Broken, Continued}
+use Rattle.renderer.specs.declared.machine.Mode.{Mode}
+use Rattle.renderer.specs.declared.machine.Mode.TheVariants.{Elements, Ended, Between, Closing}
+use Rattle.renderer.specs.Flows.{flow_of}
 use Rattle.frames.specs.declared.item.Item.{Item}
 use Rattle.frames.specs.Items.{item_of, items_in}
 use Rattle.frames.specs.Views.{manner_of, frames_of}
@@ -26,12 +33,6 @@ items_of f = windowed f.row.offset f.row.limit f.row.reversed (items_in f.row.ro
 pub record Inside : Type 0 where
   pub body : Tree
   pub rest : Tree
-
--- Where a ticket stands: at the elements of a list; at the end of one, which came to a flow; or between two visits of the innermost block.
-pub data Stand : Type 0 where
-  at_elements : Tree → Stand
-  ended : Flow → Stand
-  between : Stand
 
 module _ (w : World) where
   -- the items of the visits to come
@@ -59,13 +60,24 @@ module _ (w : World) where
   resume (f ∷ fs) [] s = s
   resume (f ∷ fs) (t ∷ ts) s = resume fs ts (after_block f t fs (after_body f t fs s))
 
+  -- what comes of the innermost block whose visits came out so, and of the blocks around it
+  abbrev pub shut : List code.Frame → List Inside → Step Flow → Step Flow
+  shut [] ts s = s
+  shut (f ∷ fs) [] s = s
+  shut (f ∷ fs) (t ∷ ts) s = resume fs ts (after_block f t fs s)
+
+  -- what comes of the visits to come
+  abbrev pub next_visits : List code.Frame → List Inside → Act Flow
+  next_visits [] ts d o = step d o (gives onward)
+  next_visits (f ∷ fs) [] d o = step d o (gives onward)
+  next_visits (f ∷ fs) (t ∷ ts) d o = more f t fs d o
+
   -- what is left of the ticket
-  abbrev pub run : Stand → List code.Frame → List Inside → Act Flow
-  run (at_elements t) fs ts d o = resume fs ts (render w t (frames_of w.host fs) d o)
-  run (ended r) fs ts d o = resume fs ts (step d o (gives r))
-  run between [] ts d o = step d o (gives onward)
-  run between (f ∷ fs) [] d o = step d o (gives onward)
-  run between (f ∷ fs) (t ∷ ts) d o = resume fs ts (after_block f t fs (more f t fs d o))
+  abbrev pub run : Mode → Tree → List code.Frame → List Inside → Act Flow
+  run Elements t fs ts d o = resume fs ts (render w t (frames_of w.host fs) d o)
+  run (Ended r) t fs ts d o = resume fs ts (step d o (gives (flow_of r)))
+  run Between t fs ts d o = shut fs ts (next_visits fs ts d o)
+  run (Closing r) t fs ts d o = shut fs ts (step d o (gives (flow_of r)))
 
 -- the nodes from i up to e are the elements of this tree
 pub record Spells (b : Pool) (ns : List Node) (room i e : ℕ) (t : Tree) : Type 0 where
@@ -78,11 +90,9 @@ pub record SpellsArms (b : Pool) (ns : List Node) (next : Next) (room i e : ℕ)
   pub is : arms_of b ns steps next room i e ≡ Some r
 
 -- a frame whose list of elements ends at e
-pub record Framed (ns : List Node) (f : code.Frame) (e : ℕ) : Type 0 where
+pub record Framed (f : code.Frame) (e : ℕ) : Type 0 where
   pub stop : f.end ≡ e
-  pub within : f.end ≤ length ns
   pub times : length (items_of f) ≡ f.times
-  pub few : f.visit ≤ f.times
 
 -- The frames hold the trees; the list of elements that is under way ends at e, and the template at `stop`.
 abbrev pub Holds : Pool → List Node → ℕ → List code.Frame → List Inside → ℕ → Type 0
@@ -90,4 +100,32 @@ Holds b ns stop [] [] e = e ≡ stop
 Holds b ns stop [] (t ∷ ts) e = ⊥
 Holds b ns stop (f ∷ fs) [] e = ⊥
 Holds b ns stop (f ∷ fs) (t ∷ ts) e =
-    Framed ns f e × Spells b ns (16 - length (f ∷ fs)) f.body f.end t.body × Spells b ns (16 - length fs) f.next f.outer t.rest × Holds b ns stop fs ts f.outer
+    Framed f e × Spells b ns (16 - length (f ∷ fs)) f.body f.end t.body × Spells b ns (16 - length fs) f.next f.outer t.rest × Holds b ns stop fs ts f.outer
+
+-- where a ticket stands behind an element that came to a flow
+abbrev pub mode_after : code_flow.Flow → Mode
+mode_after Onward = Elements
+mode_after Broken = Ended Broken
+mode_after Continued = Ended Continued
+
+-- where it stands behind a visit of a loop
+abbrev pub mode_in_loop : code_flow.Flow → Mode
+mode_in_loop Onward = Between
+mode_in_loop Broken = Closing Onward
+mode_in_loop Continued = Between
+
+-- where it stands behind a visit
+abbrev pub mode_after_visit : code_manner.Manner → code_flow.Flow → Mode
+mode_after_visit Once r = Closing r
+mode_after_visit (Each v n) r = mode_in_loop r
+mode_after_visit (Cells v n k) r = mode_in_loop r
+mode_after_visit (Keeping n) r = Closing r
+mode_after_visit Watching r = Closing r
+
+-- From here on the ticket comes to `fin`: the machine is in mode `m` at the node `at`, the list under way ends at e, and these frames are open.
+pub record Going (b : Pool) (ns : List Node) (stop : ℕ) (w : World) (m : Mode) (at e : ℕ) (fs : List code.Frame) (d : Drawers) (o : List ℕ) (fin : Step Flow) : Type 0 where
+  pub list : Tree
+  pub inside : List Inside
+  pub spelt : Spells b ns (16 - length fs) at e list
+  pub held : Holds b ns stop fs inside e
+  pub comes : run w m list fs inside d o ≡ fin

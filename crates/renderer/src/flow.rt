@@ -7,3 +7,16 @@ pub(crate) enum Flow {
     Broken,
     Continued,
 }
+
+impl Flow {
+    ghost use Rattle.std.specs.Prelude.{◌≡◌};
+    ghost use Rattle.meaning.specs.Blocks.{is_broken};
+    ghost use Rattle.renderer.specs.Flows.{flow_of};
+
+    /// Whether it is a `break`.
+    pub(crate) fn is_broken(self) -> bool
+        ensures { result ≡ is_broken (flow_of self) }
+    {
+        matches!(self, Flow::Broken)
+    }
+}

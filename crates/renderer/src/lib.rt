@@ -2,7 +2,11 @@
 
 #![tactic(auto)]
 
+mod calls;
+mod ends;
 mod flow;
+mod guards;
 mod leaves;
+mod machine;
 mod openings;
 mod stdlib;

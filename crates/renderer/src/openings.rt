@@ -41,7 +41,6 @@ pub(crate) fn open_block<'a>(
     ensures { BlockOpened scene.entry frames.now (shows drawers.now) block result }
 {
     match block {
-        Block::If | Block::Capture(_) | Block::Ifchanged => Ok(Opened::Bare),
         Block::For {
             row,
             limit,
@@ -56,6 +55,7 @@ pub(crate) fn open_block<'a>(
             offset,
             ..
         } => open_table(scene, frames, drawers, row, cols, limit, offset),
+        _ => Ok(Opened::Bare),
     }
 }
 

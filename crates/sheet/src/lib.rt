@@ -3,6 +3,7 @@
 #![tactic(auto)]
 
 mod blocks;
+mod books;
 mod elements;
 mod leaves;
 mod loading;

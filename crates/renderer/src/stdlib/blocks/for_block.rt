@@ -8,7 +8,7 @@ ghost use Rattle.held.specs.Scenes.{host_of};
 ghost use Rattle.meaning.specs.Hosts.{record_at};
 ghost use Rattle.meaning.specs.Rows.{record_row, row as row_of};
 ghost use Rattle.tray.specs.Records.{record_of};
-ghost use Rattle.renderer.specs.Openings.{row_items, RangeMade, RowFound, NumberIfFound, ForOpened, TableOpened};
+ghost use Rattle.renderer.specs.Openings.{row_items, RangeMade, RowFound, NumberIfFound, ForOpened, LaidOut, TableOpened};
 
 use crate::openings::Opened;
 use drawers::things::Drawers;
@@ -20,6 +20,7 @@ use held::scenes::Scene;
 use held::value::Value;
 use nodes::exprs::{Expr, Row};
 use rows::numbers::Numbers;
+use rows::window::Window;
 use tray::records::Record;
 use tray::trays::Tray;
 use values::rows_of::{items_of, pairs_of};
@@ -118,7 +119,22 @@ pub(crate) fn open_for<'a>(
     Ok(Opened::Loop { window, times })
 }
 
-/// Opens a `tablerow`: its row, then `cols`, `limit` and `offset`. Without `cols`, all items stand in one row; a table with items needs a column.
+// A table over a window: without `cols`, all items stand in one row; with items it needs a column.
+fn laid_out<'a>(window: Window<AnyRow>, times: u16, cols: Option<i64>) -> Result<Opened<'a>, Fault>
+    ensures { LaidOut window times cols result }
+{
+    let cols = cols.unwrap_or(i64::from(times));
+    if times > 0 && cols == 0 {
+        return Err(Fault::NoColumn);
+    }
+    Ok(Opened::Table {
+        window,
+        times,
+        cols,
+    })
+}
+
+/// Opens a `tablerow`: its row, then `cols`, `limit` and `offset`.
 pub(crate) fn open_table<'a>(
     scene: Scene<'a>,
     frames: &Frames,
@@ -135,13 +151,5 @@ pub(crate) fn open_table<'a>(
     let limit = number_if(scene, frames, drawers, limit)?;
     let offset = number_if(scene, frames, drawers, offset)?;
     let (window, times) = row.shown(offset, limit, false);
-    let cols = cols.unwrap_or(i64::from(times));
-    if times > 0 && cols == 0 {
-        return Err(Fault::NoColumn);
-    }
-    Ok(Opened::Table {
-        window,
-        times,
-        cols,
-    })
+    laid_out(window, times, cols)
 }
