@@ -6,7 +6,7 @@ use Rattle.nodes.specs.declared.table.Leaf.TheVariants.{Increment}
 use Rattle.renderer.specs.Leaves.{LeafDone, Counted}
 use Rattle.renderer.proofs.Counting.{read_back, increment_done, increment_full}
 use Rattle.renderer.proofs.Doing.{not_there, is_there}
-use Rattle.renderer.proofs.stdlib.tags.increment_tags.increment.Goals as goal
+use Rattle.renderer.proofs.stdlib.leaf_tags.increment_tags.increment.Goals as goal
 
 pub returns-in_err-next : goal.returns-in_err-next
 returns-in_err-next c s fs m =

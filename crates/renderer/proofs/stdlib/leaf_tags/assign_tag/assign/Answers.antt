@@ -9,7 +9,7 @@ use Rattle.std.specs.Option.{option_map}
 use Rattle.held.specs.declared.faults.Fault.TheVariants.{TooLong}
 use Rattle.renderer.proofs.Assigning.{assign_done, assign_long, assign_stops}
 use Rattle.renderer.proofs.Doing.{not_there, is_there}
-use Rattle.renderer.proofs.stdlib.tags.assign_tag.assign.Goals as goal
+use Rattle.renderer.proofs.stdlib.leaf_tags.assign_tag.assign.Goals as goal
 
 pub returns-in_err-came-clause-done : goal.returns-in_err-came-clause-done
 returns-in_err-came-clause-done g c text =

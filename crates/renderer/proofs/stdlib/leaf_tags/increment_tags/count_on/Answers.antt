@@ -6,7 +6,7 @@ use Rattle.pages.specs.Pieces.{Emits}
 use Rattle.meaning.specs.Things.{name, altered, with_counter}
 use Rattle.renderer.specs.Leaves.{Counted}
 use Rattle.renderer.proofs.Counting.{counted_done, counted_stops}
-use Rattle.renderer.proofs.stdlib.tags.increment_tags.count_on.Goals as goal
+use Rattle.renderer.proofs.stdlib.leaf_tags.increment_tags.count_on.Goals as goal
 
 pub returns-in_err-end : goal.returns-in_err-end
 returns-in_err-end c =

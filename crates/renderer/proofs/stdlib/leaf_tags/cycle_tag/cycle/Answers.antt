@@ -9,7 +9,7 @@ use Rattle.nodes.specs.declared.table.Leaf.TheVariants.{Cycle}
 use Rattle.renderer.specs.Leaves.{LeafDone}
 use Rattle.renderer.proofs.Cycling.{read_there, read_past, is_many, cycle_none, cycle_past, cycle_stops, cycle_done, Turned}
 use Rattle.renderer.proofs.Doing.{not_there, is_there}
-use Rattle.renderer.proofs.stdlib.tags.cycle_tag.cycle.Goals as goal
+use Rattle.renderer.proofs.stdlib.leaf_tags.cycle_tag.cycle.Goals as goal
 
 pub returns-then-is_empty : goal.returns-then-is_empty
 returns-then-is_empty c m =
