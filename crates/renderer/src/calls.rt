@@ -10,6 +10,7 @@ ghost use Rattle.meaning.specs.Order.{OrderFree};
 ghost use Rattle.nodes.specs.Trees.{tree_at};
 ghost use Rattle.tree.specs.Elements.{Tree};
 ghost use Rattle.renderer.specs.Acts.{world};
+ghost use Rattle.renderer.specs.Leaves.{Few};
 ghost use Rattle.renderer.specs.Calls.{number_of, datum_of, named, PutDone, PageDone, Rendered};
 
 use banks::bank::Bank;
@@ -150,7 +151,7 @@ fn render_nodes<B: Bank>(
     out: &mut [u8],
     trail: &mut [TrailRecord],
 ) -> Option<Faulted>
-    ensures done { (t : Tree) → tree_at (pool_of scene.entry) scene.entry.book.nodes.now from end ≡ Some t → 16 ≤ length trail.old → Rendered (world scene.entry (B.Bank.meaning bank.old) (length out.old)) t (shows drawers.old) (shows drawers.new) out.old out.new trail.old trail.new result }
+    ensures done { (t : Tree) → tree_at (pool_of scene.entry) scene.entry.book.nodes.now from end ≡ Some t → Few scene.entry → 16 ≤ length trail.old → Rendered (world scene.entry (B.Bank.meaning bank.old) (length out.old)) t (shows drawers.old) (shows drawers.new) out.old out.new trail.old trail.new result }
     ensures same { B.Bank.meaning bank.new ≡ B.Bank.meaning bank.old }
 {
     None
