@@ -12,3 +12,4 @@ pub mod Putting
 pub mod Rows
 pub mod Runs
 pub mod Taking
+pub mod Sequence
