@@ -1,7 +1,11 @@
+pub mod Assigning
 pub mod Chaining
 pub mod Conditions
 pub mod Costs
+pub mod Counting
+pub mod Cycling
 pub mod Decodes
+pub mod Doing
 pub mod Endings
 pub mod Equals
 pub mod Leaving
@@ -11,5 +15,6 @@ pub mod Passing
 pub mod Putting
 pub mod Rows
 pub mod Runs
-pub mod Taking
 pub mod Sequence
+pub mod Taking
+pub mod Writing

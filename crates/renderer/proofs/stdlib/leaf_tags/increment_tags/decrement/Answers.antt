@@ -1,11 +1,12 @@
-use Rattle.std.proofs.Common.{◌≡◌, ap, sym, ◌∙◌, subst, Ok, Err, Some, None, to_z-of_z, to_z, of_z, w64, ◌-ℤ◌, pos}
+use Rattle.std.proofs.Common.{ap, sym, ◌∙◌, subst, Err, to_z-of_z, to_z, of_z, w64, ◌-ℤ◌, pos}
 use Rattle.std.proofs.lemmas.Result.{err_from_is_err_and}
 use Rattle.drawers.specs.Shown.{shows}
 use Rattle.held.specs.declared.faults.Fault.TheVariants.{FullCounter}
 use Rattle.nodes.specs.declared.table.Leaf.TheVariants.{Decrement}
 use Rattle.renderer.specs.Leaves.{LeafDone, Counted}
-use Rattle.renderer.proofs.Leaving.{not_there, is_there, read_back, decrement_done, decrement_full}
-use Rattle.renderer.proofs.stdlib.tags.increment_tags.decrement.Goals as goal
+use Rattle.renderer.proofs.Counting.{read_back, decrement_done, decrement_full}
+use Rattle.renderer.proofs.Doing.{not_there, is_there}
+use Rattle.renderer.proofs.stdlib.leaf_tags.increment_tags.decrement.Goals as goal
 
 pub returns-in_err-next : goal.returns-in_err-next
 returns-in_err-next c s fs m =

@@ -1,4 +1,4 @@
-use Rattle.std.proofs.Common.{◌≡◌, ap, sym, ◌∙◌, subst, Ok, Err, Some, None}
+use Rattle.std.proofs.Common.{ap, sym, ◌∙◌, subst, Err}
 use Rattle.std.proofs.lemmas.Result.{err_from_is_err_and}
 use Rattle.drawers.specs.Shown.{shows, held_of}
 use Rattle.evaluation.specs.Chains.{CameThrough}
@@ -7,8 +7,9 @@ use Rattle.nodes.specs.declared.table.Leaf.TheVariants.{Assign}
 use Rattle.renderer.specs.Leaves.{LeafDone}
 use Rattle.std.specs.Option.{option_map}
 use Rattle.held.specs.declared.faults.Fault.TheVariants.{TooLong}
-use Rattle.renderer.proofs.Leaving.{not_there, is_there, assign_done, assign_long, assign_stops}
-use Rattle.renderer.proofs.stdlib.tags.assign_tag.assign.Goals as goal
+use Rattle.renderer.proofs.Assigning.{assign_done, assign_long, assign_stops}
+use Rattle.renderer.proofs.Doing.{not_there, is_there}
+use Rattle.renderer.proofs.stdlib.leaf_tags.assign_tag.assign.Goals as goal
 
 pub returns-in_err-came-clause-done : goal.returns-in_err-came-clause-done
 returns-in_err-came-clause-done g c text =

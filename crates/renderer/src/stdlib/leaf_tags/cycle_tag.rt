@@ -16,11 +16,9 @@ use pages::write::write_value;
 
 // The position behind one, around `count`.
 fn advanced(position: usize, count: usize) -> usize
-    ensures { 0 < count → result ≡ (position + 1) % count }
+    requires { 0 < count }
+    ensures { result ≡ (position + 1) % count }
 {
-    if count == 0 {
-        return 0;
-    }
     let last = position % count;
     if last == count - 1 { 0 } else { last + 1 }
 }

@@ -1,12 +1,12 @@
-use Rattle.std.proofs.Common.{◌≡◌, ◌<◌, ap, sym, ◌∙◌, subst, Ok, Err, to_z-of_z, to_z, of_z, w64}
+use Rattle.std.proofs.Common.{◌≡◌, ◌<◌, ap, sym, ◌∙◌, subst, Err, to_z-of_z, w64}
 use Rattle.std.proofs.lemmas.Result.{err_from_is_err_and}
 use Rattle.drawers.specs.Shown.{shows}
 use Rattle.numerals.specs.Decimal.{whole_text}
 use Rattle.pages.specs.Pieces.{Emits}
 use Rattle.meaning.specs.Things.{name, altered, with_counter}
 use Rattle.renderer.specs.Leaves.{Counted}
-use Rattle.renderer.proofs.Leaving.{counted_done, counted_stops}
-use Rattle.renderer.proofs.stdlib.tags.increment_tags.count_on.Goals as goal
+use Rattle.renderer.proofs.Counting.{counted_done, counted_stops}
+use Rattle.renderer.proofs.stdlib.leaf_tags.increment_tags.count_on.Goals as goal
 
 pub returns-in_err-end : goal.returns-in_err-end
 returns-in_err-end c =

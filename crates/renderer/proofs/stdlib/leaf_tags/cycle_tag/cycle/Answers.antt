@@ -1,16 +1,15 @@
-use Rattle.std.proofs.Common.{rules, ◌≡◌, ◌<◌, length, ap, sym, ◌∙◌, subst, Ok, Err, Some, None, arith}
-use Rattle.std.specs.Option.{option_map}
+use Rattle.std.proofs.Common.{length, ap, sym, ◌∙◌, subst, Err}
 use Rattle.std.proofs.lemmas.Bool.{eqb-true}
 use Rattle.std.proofs.lemmas.Result.{err_from_is_err_and}
 use Rattle.drawers.specs.Shown.{shows}
 use Rattle.evaluation.specs.Values.{Evaluated}
-use Rattle.held.specs.Records.{held_in}
 use Rattle.held.specs.declared.faults.Fault.TheVariants.{PastValues}
 use Rattle.meaning.specs.Things.{cycle_name, altered, with_position}
 use Rattle.nodes.specs.declared.table.Leaf.TheVariants.{Cycle}
 use Rattle.renderer.specs.Leaves.{LeafDone}
-use Rattle.renderer.proofs.Leaving.{not_there, is_there, read_there, read_past, is_many, cycle_none, cycle_past, cycle_stops, cycle_done, Turned}
-use Rattle.renderer.proofs.stdlib.tags.cycle_tag.cycle.Goals as goal
+use Rattle.renderer.proofs.Cycling.{read_there, read_past, is_many, cycle_none, cycle_past, cycle_stops, cycle_done, Turned}
+use Rattle.renderer.proofs.Doing.{not_there, is_there}
+use Rattle.renderer.proofs.stdlib.leaf_tags.cycle_tag.cycle.Goals as goal
 
 pub returns-then-is_empty : goal.returns-then-is_empty
 returns-then-is_empty c m =
@@ -30,7 +29,7 @@ returns-in_err-value c m =
       are = c.entries-values.ensures;
       many = many;
       was = c.position-position.ensures;
-      set = λ low. c.set_position.ensures.set low ∙ ap (λ q. altered (cycle_name c.args.name) (with_position q) d) (c.advanced.ensures many);
+      set = λ low. c.set_position.ensures.set low ∙ ap (λ q. altered (cycle_name c.args.name) (with_position q) d) c.advanced.ensures;
     } in
     let (k, is, gave) = err_from_is_err_and c.from_residual.result c.from_residual.ensures.1 in
     let (none, why) = not_there c.get.result PastValues c.in_err-value.field-0.0 (sym c.ok_or.ensures.value ∙ c.in_err-value.was) in
@@ -50,7 +49,7 @@ returns-in_err-value-2 c m =
       are = c.entries-values.ensures;
       many = many;
       was = c.position-position.ensures;
-      set = λ low. c.set_position.ensures.set low ∙ ap (λ q. altered (cycle_name c.args.name) (with_position q) d) (c.advanced.ensures many);
+      set = λ low. c.set_position.ensures.set low ∙ ap (λ q. altered (cycle_name c.args.name) (with_position q) d) c.advanced.ensures;
     } in
     let (k, is, gave) = err_from_is_err_and c.from_residual-in_err-value-2.result c.from_residual-in_err-value-2.ensures.1 in
     let k = c.in_err-value-2.field-0.0 in
@@ -72,7 +71,7 @@ returns c m =
       are = c.entries-values.ensures;
       many = many;
       was = c.position-position.ensures;
-      set = λ low. c.set_position.ensures.set low ∙ ap (λ q. altered (cycle_name c.args.name) (with_position q) d) (c.advanced.ensures many);
+      set = λ low. c.set_position.ensures.set low ∙ ap (λ q. altered (cycle_name c.args.name) (with_position q) d) c.advanced.ensures;
     } in
     let some = is_there c.get.result PastValues c.in_ok-value.value (sym c.ok_or.ensures.value ∙ c.in_ok-value.was) in
     cycle_done s fs m c.args.filled old c.args.name c.args.values d after values c.position-position.result h c.in_ok-value.value.now c.in_ok-value-2.value c.write_value.new.out c.write_value.result
