@@ -15,5 +15,6 @@ pub mod Passing
 pub mod Putting
 pub mod Rows
 pub mod Runs
+pub mod Sequence
 pub mod Taking
 pub mod Writing

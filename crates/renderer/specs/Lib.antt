@@ -7,3 +7,4 @@ pub mod Guards
 pub mod Leaves
 pub mod Openings
 pub mod Running
+pub mod Call
