@@ -16,9 +16,9 @@ use Rattle.held.specs.declared.faults.Fault.{Fault}
 use Rattle.held.specs.declared.scenes.Scene.{Scene}
 use Rattle.held.specs.Faults.{number_of, cause_of, ended}
 use Rattle.held.specs.Records.{held_in}
-use Rattle.held.specs.Scenes.{host_in, pool_of, Fits}
+use Rattle.held.specs.Scenes.{pool_of, Fits}
 use Rattle.frames.specs.declared.stack.Frames as code
-use Rattle.frames.specs.Views.{around_in}
+use Rattle.evaluation.specs.Values.{around}
 use Rattle.tree.specs.Expressions as tree
 use Rattle.tree.specs.Conditions.{Test, compares, Condition}
 use Rattle.tree.specs.Elements.{Block, Guard, holds, fails, equals_one, has_items, always, Tree, Arms}
@@ -43,13 +43,9 @@ pub record Sees (s : Seen) (o : Opening) : Type 0 where
   pub filled : s.filled ≡ is_filled (items o)
 
 module _ (s : Scene) (fs : code.Frames) (d : Drawers) where
-  -- the frames around
-  abbrev pub around : Frames
-  around = around_in (host_in s) fs
-
   -- in every world of the scene, at every place, the act answers so
   abbrev pub Answered : (World → ℕ → Frames → Act Bool) → Result Bool Fault → Type 0
-  Answered act r = (w : World) (p : ℕ) (o : List ℕ) → Fits w s → act w p around d o ≡ step d o (ended (λ y. y) r p around)
+  Answered act r = (w : World) (p : ℕ) (o : List ℕ) → Fits w s → act w p (around s fs d) d o ≡ step d o (ended (λ y. y) r p (around s fs d))
 
   abbrev pub Compared : Expr → Comparison → Expr → Result Bool Fault → Type 0
   Compared x c y r = (t u : tree.Expr) → expr_of (pool_of s) x ≡ Some t → expr_of (pool_of s) y ≡ Some u → Answered (λ w. tested w (compares t (comparison_of c) u)) r

@@ -1,5 +1,7 @@
 pub mod Acts
 pub mod Arms
+pub mod Call
+pub mod Calls
 pub mod Costs
 pub mod Ends
 pub mod Flows

@@ -1,12 +1,19 @@
 // Which arm of a block is taken.
-ghost use Rattle.std.specs.Prelude.{◌≡◌, ℕ, ◌+◌, ◌≤◌, ◌&&◌, nat_lt, nat_le, Some, Ok};
+ghost use Rattle.std.specs.Prelude.{◌≡◌, ℕ, ◌+◌, ◌≤◌, ◌&&◌, nat_lt, nat_le, List, map, length, Some, Ok};
 ghost use Rattle.std.specs.List.{slice_get};
 ghost use Rattle.drawers.specs.Shown.{shows};
-ghost use Rattle.nodes.specs.declared.table.Node.TheVariants.{Arm as arm_node};
+ghost use Rattle.frames.specs.declared.item.Item.{Item};
+ghost use Rattle.held.specs.Records.{held_in};
 ghost use Rattle.held.specs.Scenes.{pool_of};
+ghost use Rattle.nodes.specs.declared.table.Node.TheVariants.{Arm as arm_node};
 ghost use Rattle.tree.specs.Elements.{Arms};
-ghost use Rattle.renderer.specs.Guards.{Judged, Passed, IsFirst, Comes, else_at, otherwise_in, from, Stands, Taken};
+ghost use Rattle.meaning.specs.Things.{Held, nil};
+ghost use Rattle.meaning.specs.Hosts.{Host};
+ghost use Rattle.meaning.specs.Blocks.{is_filled};
+ghost use Rattle.renderer.specs.Openings.{Counted, opening_of};
+ghost use Rattle.renderer.specs.Guards.{Sees, Judged, Passed, IsFirst, Comes, else_at, otherwise_in, from, Stands, Taken};
 
+use crate::openings::Opened;
 use crate::stdlib::blocks::case_block::one_equal;
 use crate::stdlib::blocks::if_block::judge;
 use drawers::things::Drawers;
@@ -21,6 +28,36 @@ use nodes::table::{Arm, Guard, Next, Node};
 pub(crate) struct Seen<'a> {
     pub(crate) target: Value<&'a [u8]>,
     pub(crate) filled: bool,
+}
+
+impl<'a> Seen<'a> {
+    // A window with so many items.
+    fn counted(times: u16) -> Seen<'a>
+        ensures { (f : Item → Held) (xs : List Item) → times ≡ length xs → (held_in result.target ≡ nil) × (result.filled ≡ is_filled (map f xs)) }
+    {
+        Seen {
+            target: Value::Nil,
+            filled: times > 0,
+        }
+    }
+
+    /// What is seen of an opening.
+    pub(crate) fn of(opened: Opened<'a>) -> Seen<'a>
+        ensures { (h : Host) → Counted opened.entry → Sees result (opening_of h opened.entry) }
+    {
+        match opened {
+            Opened::Bare => Seen {
+                target: Value::Nil,
+                filled: false,
+            },
+            Opened::Target(target) => Seen {
+                target,
+                filled: false,
+            },
+            Opened::Loop { times, .. } => Seen::counted(times),
+            Opened::Table { times, .. } => Seen::counted(times),
+        }
+    }
 }
 
 // Whether the condition holds whose nodes stand behind `node`, up to `body`.

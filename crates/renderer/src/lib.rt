@@ -2,6 +2,8 @@
 
 #![tactic(auto)]
 
+mod call;
+mod calls;
 mod ends;
 mod flow;
 mod guards;

@@ -12,8 +12,8 @@ ghost use Rattle.renderer.specs.declared.guards.Chosen.{Chosen as ChosenArm};
 ghost use Rattle.renderer.specs.Guards.{from};
 ghost use Rattle.renderer.specs.Machines.{block_fits, steps_left, Stands, Stepped};
 
-use crate::guards::{Chosen, First, choose};
-use crate::machine::opening::{Visits, arm_visits, seen};
+use crate::guards::{Chosen, First, Seen, choose};
+use crate::machine::opening::{Visits, arm_visits};
 use crate::machine::{Machine, Mode, Move};
 use crate::openings::Opened;
 use drawers::things::Drawers;
@@ -87,7 +87,7 @@ impl Machine {
         ensures did { (m : Meaning) (limit stop : ℕ) (fin : Step Came) (out : List ℕ) → AtArms scene.entry m limit stop fin self.old (shows drawers.now) out tag first opened.entry → Stepped scene.entry m limit stop fin self.new (shows drawers.now) out result }
         ensures less { result ≡ On → steps_left self.new < steps_left self.old }
     {
-        match choose(scene, &self.frames, drawers, first, tag.end, seen(opened)) {
+        match choose(scene, &self.frames, drawers, first, tag.end, Seen::of(opened)) {
             Ok(chosen) => {
                 self.pass(tag, opened, chosen);
                 Move::On

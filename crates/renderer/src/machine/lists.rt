@@ -18,7 +18,7 @@ use crate::machine::arms::Tag;
 use crate::machine::modes::mode_after;
 use crate::machine::{Machine, Mode, Move};
 use crate::openings::{open_block, open_case};
-use crate::stdlib::tags::interrupt_tags::flow_after;
+use crate::stdlib::leaf_tags::interrupt_tags::flow_after;
 use banks::bank::Bank;
 use drawers::things::Drawers;
 use held::scenes::Scene;

@@ -2,42 +2,14 @@
 ghost use Rattle.std.specs.Prelude.{◌≡◌, ◌∷◌, [], length};
 ghost use Rattle.frames.specs.declared.frame.Manner.TheVariants.{Each, Cells};
 ghost use Rattle.frames.specs.declared.item.Item.TheVariants.{Nil};
-ghost use Rattle.meaning.specs.Hosts.{Host};
-ghost use Rattle.renderer.specs.Guards.{Sees};
-ghost use Rattle.renderer.specs.Openings.{Counted, items_of, opening_of};
+ghost use Rattle.renderer.specs.Openings.{Counted, items_of};
 ghost use Rattle.renderer.specs.Visiting.{shown_items, shown_cols, Visited, VisitsOf};
 
-use crate::guards::Seen;
 use crate::openings::Opened;
 use frames::frame::Manner;
 use frames::item::AnyRow;
-use held::value::Value;
 use nodes::table::{Block, Guard};
 use rows::window::Window;
-
-/// What guards ask of it.
-pub(crate) fn seen<'a>(opened: Opened<'a>) -> Seen<'a>
-    ensures { (h : Host) → Counted opened.entry → Sees result (opening_of h opened.entry) }
-{
-    match opened {
-        Opened::Bare => Seen {
-            target: Value::Nil,
-            filled: false,
-        },
-        Opened::Target(target) => Seen {
-            target,
-            filled: false,
-        },
-        Opened::Loop { times, .. } => Seen {
-            target: Value::Nil,
-            filled: times > 0,
-        },
-        Opened::Table { times, .. } => Seen {
-            target: Value::Nil,
-            filled: times > 0,
-        },
-    }
-}
 
 /// How an arm is visited: in which manner, to what, and how often.
 #[derive(Clone, Copy)]
