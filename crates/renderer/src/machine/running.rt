@@ -4,7 +4,7 @@ ghost use Rattle.drawers.specs.Shown.{shows};
 ghost use Rattle.held.specs.Scenes.{pool_of};
 ghost use Rattle.tree.specs.Elements.{Tree};
 ghost use Rattle.renderer.specs.Leaves.{Few};
-ghost use Rattle.renderer.specs.Rendered.{Rendered};
+ghost use Rattle.renderer.specs.Rendered.{NodesRendered};
 ghost use Rattle.renderer.specs.Running.{Spells};
 
 use crate::machine::{Machine, Move};
@@ -32,7 +32,7 @@ pub(crate) fn run_to_end<B: Bank>(
     out: &mut [u8],
     trail: &mut [TrailRecord],
 ) -> Result<usize, Failure>
-    ensures rendered { (t : Tree) → Few scene.entry → Spells (pool_of scene.entry) scene.entry.book.nodes.now 16 from end t → Rendered scene.entry (B.Bank.meaning bank.old) t (shows drawers.old) (shows drawers.new) out.old out.new trail.old trail.new result }
+    ensures rendered { (t : Tree) → Few scene.entry → Spells (pool_of scene.entry) scene.entry.book.nodes.now 16 from end t → NodesRendered scene.entry (B.Bank.meaning bank.old) t (shows drawers.old) (shows drawers.new) out.old out.new trail.old trail.new result }
     ensures same { B.Bank.meaning bank.new ≡ B.Bank.meaning bank.old }
     ensures short { length trail.old < 16 → trail.new ≡ trail.old }
 {

@@ -2,7 +2,6 @@ use Rattle.std.proofs.Common.{◌≡◌, ◌<◌, ◌∙◌, sym, refl, ap, subs
 use Rattle.drawers.specs.Shown.{shows}
 use Rattle.frames.specs.Views.{trail_record_of}
 use Rattle.renderer.specs.Machines.{Stands, Done, Failed}
-use Rattle.renderer.specs.Rendered.{Rendered}
 use Rattle.renderer.proofs.Whole.{whole, begins, through, broken}
 use Rattle.renderer.proofs.machine.running.run_to_end.Goals as goal
 
@@ -53,7 +52,7 @@ returns-in-Fault-clause-rendered g c t few spelt =
     broken s m t (shows c.args.drawers.now) c.args.out.now (shows c.step.new.drawers) c.step.new.out c.args.trail.now c.write_trail.new.trail c.args.end c.step.new.self c.in-Fault.fault c.in-Fault.place
     (subst (λ y. Failed s y limit c.args.end fin c.step.new.self (shows c.step.new.drawers) c.step.new.out c.in-Fault.fault c.in-Fault.place) i.same
       (c.in-Fault.ensures.did limit c.args.end fin (subst (λ y. Stands s y limit c.args.end fin c.steps.machine (shows c.steps.drawers) c.steps.out) (sym i.same) (i.stands t few spelt))))
-    c.steps.trail i.untouched c.write_trail.ensures.means
+    c.steps.trail i.untouched c.write_trail.ensures.written c.write_trail.ensures.means
 
 pub returns-in-Fault-clause-short : goal.returns-in-Fault-clause-short
 returns-in-Fault-clause-short g c lt = c.write_trail.ensures.short (subst (λ x. length x < 16) (sym c.steps.invariant.untouched) lt) ∙ c.steps.invariant.untouched
