@@ -59,9 +59,14 @@ module _ (s : Scene) (m : Meaning) (t : Tree) (d after : Drawers) (old mid new :
       let (is, long) = buffer_is n h.long e.within (zeros e.within) in
       let (beyond, records) = records_kept (replicate 16 Blank) (length-replicate 16 Blank) (blanks room ∙ ap (λ x. replicate 16 Blank ++ drop 16 x) e.same) in
       record {
-        text = take n mid; end = gives e.flow; did = e.comes; buffer = is; long = long;
+        text = take n mid;
+        end = gives e.flow;
+        did = e.comes;
+        buffer = is;
+        long = long;
         ended = (e.flow, refl, records_are [] (drop 16 now) (sixteen []) [] trail (front_long [] meaning.blank) (means room));
-        beyond = beyond; records = records;
+        beyond = beyond;
+        records = records;
       }
 
   pub faulted : (k : Failure) → NodesRendered s m t d after old mid before trail (Err k) → (k.filled ≤ length mid → new ≡ with_zeros (length mid) (take k.filled mid)) →
@@ -72,7 +77,12 @@ module _ (s : Scene) (m : Meaning) (t : Tree) (d after : Drawers) (old mid new :
       let (is, long) = buffer_is k.filled h.long e.within (zeros e.within) in
       let (beyond, records) = records_kept (trail_for e.inside) (front_long (map record_for e.inside) Blank) (e.written enough) in
       record {
-        text = take k.filled mid; end = stops (fault_at (number_of k.fault) (cause_of k.fault) k.place (frames_of (host_in s) e.inside)); did = e.comes; buffer = is; long = long;
+        text = take k.filled mid;
+        end = stops (fault_at (number_of k.fault) (cause_of k.fault) k.place (frames_of (host_in s) e.inside));
+        did = e.comes;
+        buffer = is;
+        long = long;
         ended = (frames_of (host_in s) e.inside, few, refl, records_are [] (drop 16 before) (sixteen (trail_of (frames_of (host_in s) e.inside))) [] trail (front_long (trail_of (frames_of (host_in s) e.inside)) meaning.blank) (e.means enough));
-        beyond = beyond; records = records;
+        beyond = beyond;
+        records = records;
       }
