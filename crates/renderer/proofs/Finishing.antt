@@ -1,13 +1,12 @@
 -- A rendered template, with zeros behind its text.
-use Rattle.std.proofs.Common.{◌≡◌, ℕ, ◌+◌, ◌-◌, ◌*◌, ◌≤◌, List, [], ◌++◌, map, min, length, take, drop, replicate, Some, None, Ok, Err, sym, refl, ap, ap₂, ◌∙◌, subst, arith, length-append, length-drop}
+use Rattle.std.proofs.Common.{◌≡◌, ℕ, ◌-◌, ◌*◌, ◌≤◌, List, [], ◌++◌, map, length, take, drop, replicate, Some, None, Ok, Err, sym, refl, ap, ◌∙◌, subst, arith, length-append, length-drop}
 use Rattle.std.proofs.lemmas.List.{length-take, length-take-le, length-replicate, take_at, drop_at, take-map, length-map}
 use Rattle.banks.specs.Meaning.{Meaning}
 use Rattle.tree.specs.Elements.{Tree}
-use Rattle.nodes.specs.Trees.{tree_at, elements_of}
+use Rattle.nodes.specs.Trees.{tree_at}
 use Rattle.nodes.proofs.Options.{where_parts}
 use Rattle.held.specs.declared.scenes.Scene.{Scene}
 use Rattle.held.specs.Scenes.{host_in, pool_of}
-use Rattle.frames.specs.declared.frame.Frame.{Frame}
 use Rattle.frames.specs.declared.frame.TrailRecord.{TrailRecord}
 use Rattle.frames.specs.declared.frame.TrailRecord.TheVariants.{Blank}
 use Rattle.frames.specs.Trails.{record_for, trail_for}
