@@ -107,10 +107,12 @@ module _ (s : Scene) (m : Meaning) (limit stop : ℕ) (fin : Step Flow) (c : Mac
 
   arrives : (c' : Machine) (k : Mode) (at end : ℕ) (gs : List Frame) → open_in c'.frames ≡ gs → c'.mode ≡ k → c'.at ≡ at → c'.end ≡ end → c'.filled ≡ c.filled → GoingNow k at end gs c.filled → Stands s m limit stop fin c' d out
   arrives c' k at end gs ef ek ea ee en g = record {
-    few = h.few; long = h.long; within = subst (λ n. n ≤ length out) (sym en) h.within;
+    few = h.few;
+    long = h.long;
+    within = subst (λ n. n ≤ length out) (sym en) h.within;
     going =
-      let same : ◌≡◌ {A = Mode × ℕ × ℕ × List Frame × ℕ} (c'.mode, c'.at, c'.end, open_in c'.frames, c'.filled) (k, at, end, gs, c.filled) = λ i. (ek i, ea i, ee i, ef i, en i) in
-      subst (λ y. GoingNow y.0 y.1 y.2 y.3 y.4) (sym same) g;
+        let same : ◌≡◌ {A = Mode × ℕ × ℕ × List Frame × ℕ} (c'.mode, c'.at, c'.end, open_in c'.frames, c'.filled) (k, at, end, gs, c.filled) = λ i. (ek i, ea i, ee i, ef i, en i) in
+        subst (λ y. GoingNow y.0 y.1 y.2 y.3 y.4) (sym same) g;
   }
 
   passed_by : (c' : Machine) → PassedBy c c' t → Taken s c.frames d room v h.arms (Ok None) → Stands s m limit stop fin c' d out
@@ -128,12 +130,12 @@ module _ (s : Scene) (m : Meaning) (limit stop : ℕ) (fin : Step Flow) (c : Mac
       let in_manner : manner_of k ≡ Rattle.meaning.specs.Blocks.manner h.block op took.guard = h.like.manner (host_in s) x a.guard took.guard took.kind in
       arrives c' Between a.end a.end (arm_frame c t p.visits a ∷ fs) p.frames p.mode p.at p.end p.filled
       (arm_taken (pool_of s) s.book.nodes.now stop w c.at c.end fs d o fin h.inside h.held t.place t.end op h.block h.arms h.rest h.spelt h.comes (arm_frame c t p.visits a) took.body h.some
-        (took.visits w h.block t.place op o fits_world sees ∙ ap (λ j. visiting_as j took.body d o) (sym (ap manner_of y.manner ∙ in_manner)))
-        took.spells
-        (refl, refl, refl, refl, sym (length-take-le c.filled out h.within))
-        (ap (map (item_of (host_in s))) y.items ∙ visited_as (host_in s) x k ∙ ap (λ j. visited (manner_of j) op) (sym y.manner))
-        (ap length y.items ∙ sym y.times)
-        (subst (TargetFits 128) (sym y.manner) (h.like.target x a.guard)))
+      (took.visits w h.block t.place op o fits_world sees ∙ ap (λ j. visiting_as j took.body d o) (sym (ap manner_of y.manner ∙ in_manner)))
+      took.spells
+      (refl, refl, refl, refl, sym (length-take-le c.filled out h.within))
+      (ap (map (item_of (host_in s))) y.items ∙ visited_as (host_in s) x k ∙ ap (λ j. visited (manner_of j) op) (sym y.manner))
+      (ap length y.items ∙ sym y.times)
+      (subst (TargetFits 128) (sym y.manner) (h.like.target x a.guard)))
 
   pub passed_on : (c' : Machine) (r : Option Chosen) → Passed c c' t x r → Taken s c.frames d room v h.arms (Ok r) → Stands s m limit stop fin c' d out
   passed_on c' None p took = passed_by c' p took

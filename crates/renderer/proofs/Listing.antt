@@ -210,8 +210,19 @@ module _ (s : Scene) (m : Meaning) (limit stop : ℕ) (fin : Step Flow) (c : Mac
   at_arms : (t : Tag) (f : First) (x : Opened) {Of : tree.Block → Type 0} (y : BlockAt (pool_of s) s.book.nodes.now (16 - length fs) c.at c.end t.place t.end Of (λ r. ArmsStand (pool_of s) s.book.nodes.now (16 - length fs - 1) t.end f r) here.list) →
       VisitedLike t.block y.opened → Opens s c.frames d y.opened w (Ok x) → AtArms s m limit stop fin c d out t f x
   at_arms t f x y like came = record {
-    few = h.few; long = h.long; within = h.within; block = y.opened; arms = y.arms; rest = y.rest; inside = here.inside;
-    like = like; some = y.some; first = y.first; spelt = y.spelt; held = here.held; counted = came.0;
+    few = h.few;
+    long = h.long;
+    within = h.within;
+    block = y.opened;
+    arms = y.arms;
+    rest = y.rest;
+    inside = here.inside;
+    like = like;
+    some = y.some;
+    first = y.first;
+    spelt = y.spelt;
+    held = here.held;
+    counted = came.0;
     comes = arms_left (pool_of s) s.book.nodes.now stop w c.at c.end fs d o fin here t.place t.end y (opening_of (host_in s) x) (came.1 t.place o);
   }
 

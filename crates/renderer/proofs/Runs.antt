@@ -132,7 +132,7 @@ module _ (b : Pool) (ns : List Node) (stop : ℕ) (w : World) where
 
     -- The arms of a block that is opened.
     module _ (ts : List Inside) (held : Holds b ns stop fs ts e) (p end : ℕ) (op : Opening) (k : tree.Block) (arms : Arms) (rest : Tree) (spelt : Spells b ns (16 - length fs) end e rest)
-      (left : resume w fs ts (go_on (taken w k p op arms around_here d o) (λ r. after_element r (render w rest around_here))) ≡ fin) where
+        (left : resume w fs ts (go_on (taken w k p op arms around_here d o) (λ r. after_element r (render w rest around_here))) ≡ fin) where
       abbrev arms_here : Act Flow
       arms_here = taken w k p op arms around_here
 
@@ -164,10 +164,11 @@ module _ (b : Pool) (ns : List Node) (stop : ℕ) (w : World) where
               record { stop = refl; times = times; target = target },
               subst (λ r. Spells b ns r f.body f.end body) (omega (arith, some)) inner,
               subst (λ y. Spells b ns (16 - length fs) y f.outer rest) (sym next) (subst (λ y. Spells b ns (16 - length fs) end y rest) (sym outer) spelt),
-              subst (λ y. Holds b ns stop fs ts y) (sym outer) held);
+              subst (λ y. Holds b ns stop fs ts y) (sym outer) held,
+            );
             comes =
-              ap (λ k. resume w fs ts (go_on (closed m k.0 around_here k.1 (visits m (visit w m k.0 around_here (λ e'. render w body e')) (drop k.2 k.3) (k.2 + 1) d o)) behind)) same
-              ∙ sym (ap (λ s. resume w fs ts (go_on s behind)) took) ∙ left;
+                ap (λ k. resume w fs ts (go_on (closed m k.0 around_here k.1 (visits m (visit w m k.0 around_here (λ e'. render w body e')) (drop k.2 k.3) (k.2 + 1) d o)) behind)) same
+                ∙ sym (ap (λ s. resume w fs ts (go_on s behind)) took) ∙ left;
           }
 
   module _ (at e : ℕ) (f : code.Frame) (fs : List code.Frame) (d : Drawers) (o : List ℕ) (fin : Step Flow) where

@@ -60,8 +60,8 @@ all_made f long none = tested (ltb f.visit f.times) refl
     tested true e =
         let lt = ltb-true f.visit f.times e in
         elim (slice_get_cases (items_of f) f.visit).1 [
-          inl p ↦ none_some p.0 (sym none ∙ ap (λ y. where_so y (slice_get (items_of f) f.visit)) e ∙ p.2)
-        | inr p ↦ absurd (omega (arith, p.0, long))
+          | inl p ↦ none_some p.0 (sym none ∙ ap (λ y. where_so y (slice_get (items_of f) f.visit)) e ∙ p.2)
+          | inr p ↦ absurd (omega (arith, p.0, long))
         ]
 
 module _ (s : Scene) (m : Meaning) (limit stop : ℕ) (fin : Step Flow) where
@@ -74,7 +74,9 @@ module _ (s : Scene) (m : Meaning) (limit stop : ℕ) (fin : Step Flow) where
 
   pub lands : (c : Machine) (d : Drawers) (out : List ℕ) (k : Mode) (fs : List Frame) → c.mode ≡ k → open_in c.frames ≡ fs → Few s → length out ≡ limit → c.filled ≤ length out → GoingAt k c.at c.end fs d (take c.filled out) → Stands s m limit stop fin c d out
   lands c d out k fs ek ef few long within g = record {
-    few = few; long = long; within = within;
+    few = few;
+    long = long;
+    within = within;
     going = subst₂ (λ y ys. GoingAt y c.at c.end ys d (take c.filled out)) (sym ek) (sym ef) g;
   }
 
@@ -82,7 +84,8 @@ module _ (s : Scene) (m : Meaning) (limit stop : ℕ) (fin : Step Flow) where
   pub fails : (c : Machine) (d : Drawers) (out : List ℕ) (fs gs : List Frame) (filled : ℕ) (k : Fault) (p : ℕ) (r : Move) → r ≡ move.Fault k p → CutFrom fs filled c.filled → open_in c.frames ≡ gs → length out ≡ limit → filled ≤ length out →
       fin ≡ step d (cutback fs (take filled out)) (stops (fault_at (number_of k) (cause_of k) p (frames_of (host_in s) gs))) → Stepped s m limit stop fin c d out r
   fails c d out fs gs filled k p r is cut ef long within comes = subst (Stepped s m limit stop fin c d out) (sym is) (record {
-    long = long; within = omega (arith, cut.within, within);
+    long = long;
+    within = omega (arith, cut.within, within);
     comes = comes ∙ ap₂ (λ o e. step d o (stops (fault_at (number_of k) (cause_of k) p (frames_of (host_in s) e)))) (sym (cut.cut out within)) (sym ef);
   })
 
@@ -116,7 +119,7 @@ module _ (s : Scene) (m : Meaning) (limit stop : ℕ) (fin : Step Flow) where
     left_on r ek i ei n new k is x =
         lands (record c { mode = k; filled = n }) d new (mode_after_visit f.manner r) inside is open_is h.few (x.long ∙ h.long) x.within
         (visit_left (pool_of s) s.book.nodes.now stop w c.at c.end f (drop 1 (open_in c.frames)) d (take c.filled out) fin r (take n new) (was c d out h (Ended r) inside ek open_is)
-          (ap (λ j. leaves w (manner_of f.manner) j f.place around (flow_of r) d (take c.filled out)) (sym ei) ∙ x.did))
+        (ap (λ j. leaves w (manner_of f.manner) j f.place around (flow_of r) d (take c.filled out)) (sym ei) ∙ x.did))
 
     pub left_fails : (r : code_flow.Flow) → c.mode ≡ Ended r → (i : ℕ) → i ≡ f.visit - 1 → (q : Stopped) (new : List ℕ) (c' : Machine) (v : Move) → v ≡ move.Fault q.fault f.place → open_in c'.frames ≡ drop 1 (open_in c.frames) → CutFrom (open_in c.frames) q.filled c'.filled →
         Ends (leaves w (manner_of f.manner) i f.place around (flow_of r) d (take c.filled out)) (flow_of r) f.place around d (length out) new (Err q) →
@@ -124,7 +127,7 @@ module _ (s : Scene) (m : Meaning) (limit stop : ℕ) (fin : Step Flow) where
     left_fails r ek i ei q new c' v is ef cut x =
         fails c' d new inside (drop 1 (open_in c.frames)) q.filled q.fault f.place v is (subst (λ fs. CutFrom fs q.filled c'.filled) open_is cut) ef (x.long ∙ h.long) x.within
         (leaving_fault (pool_of s) s.book.nodes.now stop w c.at c.end f (drop 1 (open_in c.frames)) d (take c.filled out) fin r (take q.filled new) _ (was c d out h (Ended r) inside ek open_is)
-          (ap (λ j. leaves w (manner_of f.manner) j f.place around (flow_of r) d (take c.filled out)) (sym ei) ∙ x.did))
+        (ap (λ j. leaves w (manner_of f.manner) j f.place around (flow_of r) d (take c.filled out)) (sym ei) ∙ x.did))
 
     -- the innermost frame and what its list is
     framed : (fs : List Frame) (ts : List Inside) (e : ℕ) → Holds (pool_of s) s.book.nodes.now stop (f ∷ fs) ts e → Framed f e

@@ -38,11 +38,13 @@ module _ (s : Scene) (m : Meaning) (t : Tree) (d : Drawers) (old : List ℕ) whe
   -- the machine before its first step
   pub begins : (c : Machine) (from end : ℕ) → open_in c.frames ≡ [] → (c.mode ≡ Elements) × (c.at ≡ from) × (c.end ≡ end) × (c.filled ≡ 0) → Few s → Spells (pool_of s) s.book.nodes.now 16 from end t → Stands s m (length old) end whole c d old
   begins c from end ef (ek, ea, ee, en) few spelt = record {
-    few = few; long = refl; within = omega (arith, en);
+    few = few;
+    long = refl;
+    within = omega (arith, en);
     going =
-      let same : ◌≡◌ {A = Mode × ℕ × ℕ × List Frame × ℕ} (c.mode, c.at, c.end, open_in c.frames, c.filled) (Elements, from, end, [], 0) = λ i. (ek i, ea i, ee i, ef i, en i) in
-      subst (λ y. Going (pool_of s) s.book.nodes.now end (world s m (length old)) y.0 y.1 y.2 y.3 d (take y.4 old) whole) (sym same)
-      (record { list = t; inside = []; spelt = spelt; held = refl; comes = refl });
+        let same : ◌≡◌ {A = Mode × ℕ × ℕ × List Frame × ℕ} (c.mode, c.at, c.end, open_in c.frames, c.filled) (Elements, from, end, [], 0) = λ i. (ek i, ea i, ee i, ef i, en i) in
+        subst (λ y. Going (pool_of s) s.book.nodes.now end (world s m (length old)) y.0 y.1 y.2 y.3 d (take y.4 old) whole) (sym same)
+        (record { list = t; inside = []; spelt = spelt; held = refl; comes = refl });
   }
 
   module _ (d' : Drawers) (new : List ℕ) (trail_before trail : List TrailRecord) (stop : ℕ) (c : Machine) where
@@ -56,7 +58,10 @@ module _ (s : Scene) (m : Meaning) (t : Tree) (d : Drawers) (old : List ℕ) whe
     broken k p h now same written means = record {
       long = h.long;
       ended = record {
-        within = h.within; inside = open_in c.frames; few = sixteen_open c.frames; comes = h.comes;
+        within = h.within;
+        inside = open_in c.frames;
+        few = sixteen_open c.frames;
+        comes = h.comes;
         written = subst (λ x. 16 ≤ length x → trail ≡ trail_for (open_in c.frames) ++ drop 16 x) same written;
         means = subst (λ x. 16 ≤ length x → map trail_record_of trail ≡ sixteen (trail_of (around_in (host_in s) c.frames)) ++ map trail_record_of (drop 16 x)) same (λ le. means le (host_in s));
       };

@@ -87,7 +87,14 @@ impl Machine {
         ensures did { (m : Meaning) (limit stop : ℕ) (fin : Step Came) (out : List ℕ) → AtArms scene.entry m limit stop fin self.old (shows drawers.now) out tag first opened.entry → Stepped scene.entry m limit stop fin self.new (shows drawers.now) out result }
         ensures less { result ≡ On → steps_left self.new < steps_left self.old }
     {
-        match choose(scene, &self.frames, drawers, first, tag.end, Seen::of(opened)) {
+        match choose(
+            scene,
+            &self.frames,
+            drawers,
+            first,
+            tag.end,
+            Seen::of(opened),
+        ) {
             Ok(chosen) => {
                 self.pass(tag, opened, chosen);
                 Move::On

@@ -36,7 +36,7 @@ returns-in-Through-clause-rendered g c t few spelt =
     let fin = whole s m t (shows c.args.drawers.now) c.args.out.now in
     through s m t (shows c.args.drawers.now) c.args.out.now (shows c.step.new.drawers) c.step.new.out c.args.trail.now c.steps.trail c.args.end c.step.new.self
     (subst (λ y. Done s y limit c.args.end fin c.step.new.self (shows c.step.new.drawers) c.step.new.out) i.same
-      (c.in-Through.ensures.did limit c.args.end fin (subst (λ y. Stands s y limit c.args.end fin c.steps.machine (shows c.steps.drawers) c.steps.out) (sym i.same) (i.stands t few spelt))))
+    (c.in-Through.ensures.did limit c.args.end fin (subst (λ y. Stands s y limit c.args.end fin c.steps.machine (shows c.steps.drawers) c.steps.out) (sym i.same) (i.stands t few spelt))))
     i.untouched
 
 pub returns-in-Through-clause-short : goal.returns-in-Through-clause-short
@@ -51,7 +51,7 @@ returns-in-Fault-clause-rendered g c t few spelt =
     let fin = whole s m t (shows c.args.drawers.now) c.args.out.now in
     broken s m t (shows c.args.drawers.now) c.args.out.now (shows c.step.new.drawers) c.step.new.out c.args.trail.now c.write_trail.new.trail c.args.end c.step.new.self c.in-Fault.fault c.in-Fault.place
     (subst (λ y. Failed s y limit c.args.end fin c.step.new.self (shows c.step.new.drawers) c.step.new.out c.in-Fault.fault c.in-Fault.place) i.same
-      (c.in-Fault.ensures.did limit c.args.end fin (subst (λ y. Stands s y limit c.args.end fin c.steps.machine (shows c.steps.drawers) c.steps.out) (sym i.same) (i.stands t few spelt))))
+    (c.in-Fault.ensures.did limit c.args.end fin (subst (λ y. Stands s y limit c.args.end fin c.steps.machine (shows c.steps.drawers) c.steps.out) (sym i.same) (i.stands t few spelt))))
     c.steps.trail i.untouched c.write_trail.ensures.written c.write_trail.ensures.means
 
 pub returns-in-Fault-clause-short : goal.returns-in-Fault-clause-short
