@@ -1,17 +1,15 @@
 -- The arms of a block that is opened.
-use Rattle.std.proofs.Common.{◌≡◌, ℕ, ◌+◌, ◌-◌, ◌<◌, ◌≤◌, Bool, true, ◌&&◌, List, [], ◌∷◌, map, length, take, Some, None, Option, Ok, Err, sym, refl, ap, ap₂, ◌∙◌, subst, arith}
+use Rattle.std.proofs.Common.{◌≡◌, ℕ, ◌-◌, ◌<◌, ◌≤◌, true, List, ◌∷◌, map, length, take, Some, None, Option, Ok, Err, sym, refl, ap, ◌∙◌, subst, arith}
 use Rattle.std.proofs.lemmas.Bool.{ltb-true, leb-true}
 use Rattle.std.proofs.lemmas.List.{length-take-le}
 use Rattle.banks.specs.Meaning.{Meaning}
-use Rattle.tree.specs.Elements as tree
-use Rattle.tree.specs.Elements.{Tree, Arms}
+use Rattle.tree.specs.Elements.{Tree}
 use Rattle.held.specs.declared.faults.Fault.{Fault}
 use Rattle.held.specs.declared.scenes.Scene.{Scene}
 use Rattle.held.specs.Scenes.{host_in, pool_of, Fits}
 use Rattle.frames.specs.declared.frame.Frame.{Frame}
 use Rattle.frames.specs.declared.frame.Manner as code_manner
 use Rattle.frames.specs.declared.frame.Manner.TheVariants.{Once, Each, Cells, Keeping, Watching}
-use Rattle.frames.specs.declared.stack.Frames.{Frames as Frames_code}
 use Rattle.frames.specs.Items.{item_of}
 use Rattle.frames.specs.Views.{open_in, around_in, manner_of}
 use Rattle.meaning.specs.Hosts.{Host}
@@ -41,13 +39,13 @@ use Rattle.renderer.specs.Costs.{cost}
 use Rattle.renderer.specs.Ends.{TargetFits}
 use Rattle.renderer.specs.Guards.{Sees, Taken}
 use Rattle.renderer.specs.Machines.{CutFrom, block_fits, steps_left, Stands, Stepped}
-use Rattle.renderer.specs.Openings.{items_of, opening_of}
+use Rattle.renderer.specs.Openings.{opening_of}
 use Rattle.renderer.specs.Running.{Going}
 use Rattle.renderer.specs.Visiting.{shown_items, shown_cols, manner_in, visited_items}
 use Rattle.renderer.proofs.Costs.{skip_falls, open_falls}
 use Rattle.renderer.proofs.Decodes.{both_parts}
 use Rattle.renderer.proofs.Runs.{guard_fault, no_arm, arm_taken}
-use Rattle.renderer.proofs.Stepping.{lands, fails}
+use Rattle.renderer.proofs.Stepping.{fails}
 
 pub fits_parts : (at end depth e : ℕ) → block_fits at end depth e ≡ true → (at < e) × (e ≤ end) × (depth < 16)
 fits_parts at end depth e h =

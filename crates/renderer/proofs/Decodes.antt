@@ -1,5 +1,5 @@
 -- What stands where nodes spell elements or arms.
-use Rattle.std.proofs.Common.{◌≡◌, ℕ, zero, suc, ◌+◌, ◌-◌, ◌<◌, ◌≤◌, Bool, true, false, cond, ◌&&◌, eqb, ltb, leb, List, Some, None, Option, sym, refl, ap, ◌∙◌, arith}
+use Rattle.std.proofs.Common.{◌≡◌, ℕ, zero, suc, ◌+◌, ◌-◌, ◌<◌, ◌≤◌, Bool, true, false, cond, ◌&&◌, eqb, ltb, leb, List, Some, sym, refl, ◌∙◌, arith}
 use Rattle.std.proofs.lemmas.Bool.{eqb-true, ltb-true, leb-true, ne_eqb, lt-ltb, eq-eqb}
 use Rattle.std.specs.List.{slice_get}
 use Rattle.tree.specs.Expressions as tree_expr
@@ -8,13 +8,10 @@ use Rattle.tree.specs.Elements.{Tree, done, leaf, block, Arms, no_arms, arm}
 use Rattle.nodes.specs.declared.exprs.Expr.{Expr}
 use Rattle.nodes.specs.declared.table.Leaf.{Leaf}
 use Rattle.nodes.specs.declared.table.Block.{Block}
-use Rattle.nodes.specs.declared.table.Next.{Next}
-use Rattle.nodes.specs.declared.table.Next.TheVariants as next
-use Rattle.nodes.specs.declared.table.Arm.{Arm}
 use Rattle.nodes.specs.declared.table.Node.{Node}
 use Rattle.nodes.specs.declared.table.Node.TheVariants as node
-use Rattle.nodes.specs.Exprs.{Pool, expr_of, ◌so◌, where_so, only}
-use Rattle.nodes.specs.Trees.{leaf_of, block_of, guard_of, arm_of, arm_at, element_at, elements_of, arms_of}
+use Rattle.nodes.specs.Exprs.{Pool, expr_of, ◌so◌, where_so}
+use Rattle.nodes.specs.Trees.{leaf_of, block_of, element_at, elements_of, arms_of}
 use Rattle.nodes.proofs.Options.{none_some, some_is, so_parts, where_parts, only_parts}
 use Rattle.renderer.specs.Guards.{SpellsArm}
 use Rattle.renderer.specs.Running.{Spells, SpellsArms}

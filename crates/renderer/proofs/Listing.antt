@@ -1,9 +1,8 @@
 -- The elements of a list, and the blocks among them.
-use Rattle.std.proofs.Common.{◌≡◌, ℕ, ◌+◌, ◌-◌, ◌<◌, ◌≤◌, Bool, true, false, ◌&&◌, ltb, leb, List, [], ◌∷◌, map, length, take, Some, None, Option, Ok, Err, Result, sym, refl, ap, ap₂, ◌∙◌, subst, arith, ltb-true, ltb-false, lt-ltb, le-leb}
+use Rattle.std.proofs.Common.{◌≡◌, ℕ, ◌+◌, ◌-◌, ◌<◌, ◌≤◌, Bool, true, false, ltb, List, length, take, Some, None, Option, Ok, Err, sym, refl, ap, ap₂, ◌∙◌, subst, arith, ltb-true, ltb-false, lt-ltb, le-leb}
 use Rattle.std.proofs.lemmas.List.{length-map}
 use Rattle.std.specs.List.{slice_get}
 use Rattle.banks.specs.Meaning.{Meaning}
-use Rattle.tree.specs.Conditions.{Condition}
 use Rattle.tree.specs.Expressions as tree_expr
 use Rattle.tree.specs.Elements as tree
 use Rattle.tree.specs.Elements.{Tree, Arms}
@@ -20,8 +19,8 @@ use Rattle.nodes.specs.declared.table.Leaf.{Leaf}
 use Rattle.nodes.specs.declared.table.Next.{Next}
 use Rattle.nodes.specs.declared.table.Node.{Node}
 use Rattle.nodes.specs.declared.table.Node.TheVariants as node
-use Rattle.nodes.specs.Exprs.{Pool, where_so, only, ◌so◌, row_of, if_any, expr_of}
-use Rattle.nodes.specs.Trees.{leaf_of, block_of}
+use Rattle.nodes.specs.Exprs.{Pool, only, ◌so◌, row_of, if_any, expr_of}
+use Rattle.nodes.specs.Trees.{block_of}
 use Rattle.nodes.proofs.Options.{none_some, some_is, so_parts, where_parts, only_parts}
 use Rattle.held.specs.declared.faults.Fault.{Fault}
 use Rattle.held.specs.declared.scenes.Scene.{Scene}
@@ -31,7 +30,7 @@ use Rattle.frames.specs.Views.{open_in, around_in, manner_of}
 use Rattle.meaning.specs.Hosts.{Host}
 use Rattle.meaning.specs.Things.{Drawers}
 use Rattle.meaning.specs.Frames.{Frames, each, cells}
-use Rattle.meaning.specs.Acts.{Step, step, gives, stops}
+use Rattle.meaning.specs.Acts.{Step, step, gives}
 use Rattle.meaning.specs.Leaves.{Flow, leaf_act}
 use Rattle.meaning.specs.Looking.{World}
 use Rattle.meaning.specs.Blocks as blocks
@@ -52,13 +51,13 @@ use Rattle.renderer.specs.Arms.{VisitedLike, AtArms}
 use Rattle.renderer.specs.Ends.{TargetFits}
 use Rattle.renderer.specs.Flows.{flow_of}
 use Rattle.renderer.specs.Guards.{IsGuard, Stands as ArmsStand}
-use Rattle.renderer.specs.Leaves.{Few, flow_behind, LeafDone}
+use Rattle.renderer.specs.Leaves.{flow_behind, LeafDone}
 use Rattle.renderer.specs.Machines.{CutFrom, block_fits, fits, node_in, Stands, Stepped}
-use Rattle.renderer.specs.Openings.{Counted, opening_of, Opens, BlockOpened, CaseOpened}
+use Rattle.renderer.specs.Openings.{opening_of, Opens, BlockOpened, CaseOpened}
 use Rattle.renderer.specs.Running.{Going, mode_after}
-use Rattle.renderer.specs.Visiting.{shown_items, shown_cols, manner_in, for_manner}
+use Rattle.renderer.specs.Visiting.{shown_items, shown_cols, for_manner}
 use Rattle.renderer.proofs.Arming.{fits_parts, shown_opening}
-use Rattle.renderer.proofs.Decodes.{LeafAt, BlockAt, IsBlock, IsCase, ElementAt, element_here, node_here, not_past}
+use Rattle.renderer.proofs.Decodes.{LeafAt, BlockAt, ElementAt, element_here, node_here, not_past}
 use Rattle.renderer.proofs.Runs.{list_ended, leaf_done, leaf_fault, open_fault, arms_left}
 use Rattle.renderer.proofs.Stepping.{was, lands, fails}
 

@@ -1,5 +1,5 @@
 -- One step of a rendering.
-use Rattle.std.proofs.Common.{◌≡◌, ℕ, zero, suc, ◌+◌, ◌-◌, ◌<◌, ◌≤◌, List, [], ◌∷◌, map, length, drop, Some, eqb, get_or, sym, refl, ap, ap₂, ◌∙◌, subst, arith, add-one, drop-cons}
+use Rattle.std.proofs.Common.{◌≡◌, ℕ, suc, ◌+◌, ◌-◌, ◌<◌, ◌≤◌, List, [], ◌∷◌, map, length, drop, Some, sym, refl, ap, ap₂, ◌∙◌, subst, arith, drop-cons}
 use Rattle.std.proofs.lemmas.Bool.{eq-eqb}
 use Rattle.std.proofs.lemmas.List.{drop-map}
 use Rattle.std.proofs.lemmas.Option.{get_or_from_slice_get}
@@ -20,9 +20,9 @@ use Rattle.frames.specs.Views.{manner_of, frames_of}
 use Rattle.frames.specs.Visits.{visited as at_visit}
 use Rattle.meaning.specs.Things.{Drawers, Held}
 use Rattle.meaning.specs.Frames.{Manner, Frames}
-use Rattle.meaning.specs.Acts.{Act, Step, step, gives, stops, Fault, go_on, ◌and_then◌, pure, still}
+use Rattle.meaning.specs.Acts.{Act, Step, step, gives, stops, Fault, go_on, ◌and_then◌, still}
 use Rattle.meaning.specs.Looking.{World}
-use Rattle.meaning.specs.Leaves.{Flow, onward, broken, continued, leaf_act}
+use Rattle.meaning.specs.Leaves.{Flow, onward, leaf_act}
 use Rattle.meaning.specs.Openings.{Opening, opened}
 use Rattle.meaning.specs.Blocks.{visits, visit, visited, enters, leaves, after_visit, closed, around, after_element}
 use Rattle.meaning.specs.Rendering.{render, taken}
@@ -32,7 +32,7 @@ use Rattle.renderer.specs.declared.machine.Mode.{Mode}
 use Rattle.renderer.specs.declared.machine.Mode.TheVariants.{Elements, Ended, Between, Closing}
 use Rattle.renderer.specs.Ends.{TargetFits}
 use Rattle.renderer.specs.Flows.{flow_of}
-use Rattle.renderer.specs.Running.{Inside, items_of, left_of, more, after_body, after_block, resume, shut, next_visits, run, Spells, Framed, Holds, Going, mode_after, mode_after_visit}
+use Rattle.renderer.specs.Running.{Inside, items_of, more, after_block, resume, shut, next_visits, run, Spells, Holds, Going, mode_after, mode_after_visit}
 use Rattle.renderer.proofs.Decodes.{LeafAt, BlockAt, nothing_here}
 
 -- a fault goes through a block that is closed

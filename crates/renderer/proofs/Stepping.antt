@@ -1,5 +1,5 @@
 -- Steps of the machine, from what they rest on.
-use Rattle.std.proofs.Common.{◌≡◌, ℕ, ◌+◌, ◌-◌, ◌<◌, ◌≤◌, Bool, true, false, cond, ltb, List, [], ◌∷◌, length, take, drop, Some, None, Ok, Err, inl, inr, ltb-true, ltb-false, lt-ltb, sym, refl, ap, ap₂, ◌∙◌, subst, subst₂, arith}
+use Rattle.std.proofs.Common.{◌≡◌, ℕ, ◌-◌, ◌<◌, ◌≤◌, Bool, true, false, cond, ltb, List, [], ◌∷◌, length, take, drop, Some, None, Ok, Err, inl, inr, ltb-true, ltb-false, lt-ltb, sym, refl, ap, ap₂, ◌∙◌, subst, subst₂, arith}
 use Rattle.std.specs.List.{slice_get}
 use Rattle.banks.specs.Meaning.{Meaning}
 use Rattle.std.proofs.lemmas.Option.{slice_get_cases}
@@ -12,7 +12,7 @@ use Rattle.held.specs.Scenes.{host_in, pool_of}
 use Rattle.frames.specs.declared.frame.Frame.{Frame}
 use Rattle.frames.specs.declared.item.Item.{Item}
 use Rattle.frames.specs.Cuts.{cutback}
-use Rattle.frames.specs.Views.{open_in, around_in, frames_of, manner_of}
+use Rattle.frames.specs.Views.{open_in, frames_of, manner_of}
 use Rattle.frames.specs.declared.stack.Frames.{Frames as Frames_code}
 use Rattle.frames.specs.Visits.{visited as at_visit, next_visited}
 use Rattle.meaning.specs.Things.{Drawers}
@@ -33,7 +33,7 @@ use Rattle.renderer.specs.Acts.{world}
 use Rattle.renderer.specs.Ends.{Ends, TargetFits}
 use Rattle.renderer.specs.Flows.{flow_of}
 use Rattle.renderer.specs.Leaves.{Few}
-use Rattle.renderer.specs.Machines.{CutFrom, next_item, Stands, Done, Failed, Stepped}
+use Rattle.renderer.specs.Machines.{CutFrom, next_item, Stands, Done, Stepped}
 use Rattle.renderer.specs.Running.{Inside, items_of, Framed, Going, Holds, mode_after, mode_after_visit}
 use Rattle.renderer.proofs.Runs.{visit_left, leaving_fault, visit_entered, entering_fault, visits_done, block_closed, closing_fault}
 

@@ -1,5 +1,5 @@
 -- The rendering of a template, from the first step to the last.
-use Rattle.std.proofs.Common.{◌≡◌, ℕ, ◌+◌, ◌-◌, ◌≤◌, List, [], ◌++◌, map, length, take, drop, Ok, Err, sym, refl, ap, ◌∙◌, subst, arith}
+use Rattle.std.proofs.Common.{◌≡◌, ℕ, ◌≤◌, List, [], ◌++◌, map, length, take, drop, Ok, Err, sym, refl, subst, arith}
 use Rattle.std.proofs.lemmas.List.{length-reverse, length-take}
 use Rattle.banks.specs.Meaning.{Meaning}
 use Rattle.tree.specs.Elements.{Tree}
@@ -10,7 +10,7 @@ use Rattle.frames.specs.declared.frame.Frame.{Frame}
 use Rattle.frames.specs.declared.stack.Frames.{Frames as Frames_code}
 use Rattle.frames.specs.Trails.{trail_for}
 use Rattle.frames.specs.declared.frame.TrailRecord.{TrailRecord}
-use Rattle.frames.specs.Views.{open_in, around_in, frames_of, trail_record_of}
+use Rattle.frames.specs.Views.{open_in, around_in, trail_record_of}
 use Rattle.meaning.specs.Hosts.{Host}
 use Rattle.meaning.specs.Things.{Drawers}
 use Rattle.meaning.specs.Frames.{sixteen, trail_of}
@@ -20,7 +20,6 @@ use Rattle.meaning.specs.Rendering.{render}
 use Rattle.renderer.specs.declared.machine.Machine.{Machine}
 use Rattle.renderer.specs.declared.machine.Mode.{Mode}
 use Rattle.renderer.specs.declared.machine.Mode.TheVariants.{Elements}
-use Rattle.renderer.specs.declared.machine.Move.TheVariants as move
 use Rattle.renderer.specs.Acts.{world}
 use Rattle.renderer.specs.Leaves.{Few}
 use Rattle.renderer.specs.Machines.{Stands, Done, Failed}

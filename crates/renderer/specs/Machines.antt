@@ -1,8 +1,7 @@
 -- What steps of a rendering leave.
-use Rattle.std.specs.Prelude.{◌≡◌, ℕ, ◌<◌, ◌≤◌, Bool, true, ◌&&◌, List, [], ◌∷◌, ◌++◌, map, length, take, drop, Option, Ok, Err, Result, nat_lt, nat_le}
+use Rattle.std.specs.Prelude.{◌≡◌, ℕ, ◌≤◌, Bool, true, ◌&&◌, List, length, take, Option, nat_lt, nat_le}
 use Rattle.std.specs.List.{slice_get}
 use Rattle.banks.specs.Meaning.{Meaning}
-use Rattle.tree.specs.Elements.{Tree}
 use Rattle.nodes.specs.declared.table.Node.{Node}
 use Rattle.nodes.specs.declared.table.Node.TheVariants as node
 use Rattle.nodes.specs.Exprs.{◌so◌, where_so, only}
@@ -11,22 +10,19 @@ use Rattle.held.specs.declared.scenes.Scene.{Scene}
 use Rattle.held.specs.Faults.{number_of, cause_of}
 use Rattle.held.specs.Scenes.{host_in, pool_of}
 use Rattle.frames.specs.declared.frame.Frame as code
-use Rattle.frames.specs.declared.frame.TrailRecord as code_record
 use Rattle.frames.specs.declared.item.Item.{Item}
 use Rattle.frames.specs.Cuts.{cutback}
-use Rattle.frames.specs.Views.{open_in, around_in, trail_record_of}
+use Rattle.frames.specs.Views.{open_in, around_in}
 use Rattle.meaning.specs.Things.{Drawers}
-use Rattle.meaning.specs.Frames.{Frames, sixteen, trail_of}
 use Rattle.meaning.specs.Acts.{Step, step, gives, stops, fault_at}
 use Rattle.meaning.specs.Leaves.{Flow}
-use Rattle.meaning.specs.Rendering.{render}
 use Rattle.renderer.specs.declared.machine.Machine.{Machine}
 use Rattle.renderer.specs.declared.machine.Move.{Move}
 use Rattle.renderer.specs.declared.machine.Move.TheVariants.{On, Through, Fault}
 use Rattle.renderer.specs.Acts.{world}
 use Rattle.renderer.specs.Costs.{cost}
 use Rattle.renderer.specs.Leaves.{Few}
-use Rattle.renderer.specs.Running.{items_of, Going, Spells}
+use Rattle.renderer.specs.Running.{items_of, Going}
 
 -- a block at the node `at` ends behind it and within its list, and has room for a frame
 abbrev pub block_fits : ℕ → ℕ → ℕ → ℕ → Bool

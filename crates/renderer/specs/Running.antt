@@ -1,5 +1,5 @@
 -- What is left of a ticket from inside its open blocks, said with the acts of the definition.
-use Rattle.std.specs.Prelude.{◌≡◌, ℕ, ◌+◌, ◌-◌, ◌≤◌, List, [], ◌∷◌, map, length, drop, Some}
+use Rattle.std.specs.Prelude.{◌≡◌, ℕ, ◌+◌, ◌-◌, List, [], ◌∷◌, map, length, drop, Some}
 use Rattle.rows.specs.Windows.{windowed}
 use Rattle.tree.specs.Elements.{Tree, Arms}
 use Rattle.nodes.specs.declared.table.Node.{Node}
@@ -19,7 +19,6 @@ use Rattle.frames.specs.declared.item.Item.{Item}
 use Rattle.frames.specs.Items.{item_of, items_in}
 use Rattle.frames.specs.Views.{manner_of, frames_of}
 use Rattle.meaning.specs.Things.{Drawers, Held}
-use Rattle.meaning.specs.Frames.{Frames}
 use Rattle.meaning.specs.Acts.{Act, Step, step, gives, go_on}
 use Rattle.meaning.specs.Looking.{World}
 use Rattle.meaning.specs.Leaves.{Flow, onward}

@@ -1,6 +1,6 @@
 use Rattle.std.proofs.Common.{sym, ◌∙◌}
 use Rattle.renderer.specs.Acts.{world}
-use Rattle.renderer.proofs.Stepping.{top_none, through_between, no_more, entered_on, entering_fails}
+use Rattle.renderer.proofs.Stepping.{no_more, entered_on, entering_fails}
 use Rattle.renderer.proofs.machine.Machine.begin_visit.Goals as goal
 
 pub returns-in_default-next_item-clause-did : goal.returns-in_default-next_item-clause-did

@@ -1,8 +1,5 @@
-use Rattle.std.proofs.Common.{length, subst}
+use Rattle.std.proofs.Common.{length}
 use Rattle.frames.specs.Views.{open_in}
-use Rattle.drawers.specs.Shown.{shows}
-use Rattle.renderer.specs.Openings.{BlockOpened}
-use Rattle.renderer.proofs.Arming.{fits_parts}
 use Rattle.renderer.proofs.Listing.{before_end, block_at_arms, block_fails}
 use Rattle.renderer.proofs.machine.Machine.open.Goals as goal
 

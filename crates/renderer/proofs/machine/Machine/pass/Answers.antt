@@ -1,4 +1,4 @@
-use Rattle.std.proofs.Common.{◌<◌, length, arith, rules}
+use Rattle.std.proofs.Common.{◌<◌, length, rules}
 use Rattle.frames.specs.Views.{open_in}
 use Rattle.renderer.proofs.Arming.{fits_parts, skipped_falls, arm_falls}
 use Rattle.renderer.proofs.machine.Machine.pass.Goals as goal

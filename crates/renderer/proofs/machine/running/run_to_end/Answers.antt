@@ -1,6 +1,5 @@
-use Rattle.std.proofs.Common.{◌≡◌, ◌<◌, ◌∙◌, sym, refl, ap, subst, length, map, take}
+use Rattle.std.proofs.Common.{◌<◌, ◌∙◌, sym, refl, subst, length}
 use Rattle.drawers.specs.Shown.{shows}
-use Rattle.frames.specs.Views.{trail_record_of}
 use Rattle.renderer.specs.Machines.{Stands, Done, Failed}
 use Rattle.renderer.proofs.Whole.{whole, begins, through, broken}
 use Rattle.renderer.proofs.machine.running.run_to_end.Goals as goal
