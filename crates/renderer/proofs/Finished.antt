@@ -1,6 +1,5 @@
 -- What is left to do behind the last step of a rendering: zeros, and where there was no fault a blank trail.
-use Rattle.std.proofs.Common.{◌≡◌, ℕ, ◌+◌, ◌-◌, ◌*◌, ◌≤◌, true, List, [], ◌++◌, length, map, take, drop, replicate, Some, None, Ok, Err, refl, ap, sym, subst, ◌∙◌, arith}
-use Rattle.std.proofs.lemmas.Bool.{leb-true}
+use Rattle.std.proofs.Common.{◌≡◌, ℕ, ◌-◌, ◌*◌, ◌≤◌, List, [], ◌++◌, length, map, take, drop, replicate, Some, None, Ok, Err, refl, ap, ◌∙◌, arith}
 use Rattle.std.proofs.lemmas.List.{take_at, drop_at, length-append, length-replicate, length-take-le}
 use Rattle.banks.specs.Meaning.{Meaning}
 use Rattle.tree.specs.Elements.{Tree}
@@ -10,7 +9,6 @@ use Rattle.held.specs.declared.scenes.Scene.{Scene}
 use Rattle.held.specs.Scenes.{host_in, pool_of}
 use Rattle.frames.specs.declared.frame.Frame.{Frame}
 use Rattle.frames.specs.declared.frame.TrailRecord.{TrailRecord}
-use Rattle.frames.specs.declared.frame.TrailRecord.TheVariants.{Blank}
 use Rattle.frames.specs.Trails.{trail_for}
 use Rattle.frames.specs.Views.{frames_of, trail_record_of}
 use Rattle.frames.proofs.Trails.{trail_length, trail_means}
@@ -21,7 +19,6 @@ use Rattle.meaning.specs.Acts.{gives, stops, fault_at}
 use Rattle.meaning.specs.Calls.{filled}
 use Rattle.held.specs.Faults.{number_of, cause_of}
 use Rattle.renderer.specs.declared.machine.running.Failure.{Failure}
-use Rattle.renderer.specs.declared.calls.Faulted.{Faulted}
 use Rattle.renderer.specs.Acts.{world}
 use Rattle.renderer.specs.Calls.{Rendered, records_in}
 use Rattle.renderer.specs.Rendered.{NodesRendered}
