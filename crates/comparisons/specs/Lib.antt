@@ -1,2 +1,3 @@
 pub mod Ends
 pub mod Forms
+pub mod Members

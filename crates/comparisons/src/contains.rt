@@ -48,7 +48,7 @@ fn lay_pair(tray: &Tray, i: usize, out: &mut [u8]) -> Option<usize>
     ensures { MatchOption result (OneLaid (written (value_of tray.now i)) (written (pair_value tray.now i)) out.old out.new) (λ end. Laid (written (pair_value tray.now i)) out.old out.new end) }
 {
     let key = write_text(tray, i, out)?;
-    let value = write_text(tray, Items::pair(i).item(tray, 1), &mut out[key..])?;
+    let value = write_text(tray, Items::pair(i).item(1), &mut out[key..])?;
     Some(key + value)
 }
 

@@ -4,7 +4,9 @@ ghost use Rattle.held.specs.Scenes.{host_of};
 ghost use Rattle.held.specs.Value.{held_by};
 ghost use Rattle.values.specs.Meaning.{value_of};
 ghost use Rattle.meaning.specs.Hosts.{value_of as tree_of};
+ghost use Rattle.tray.specs.declared.trays.Tray.{Tray};
 ghost use Rattle.comparisons.specs.Forms.{pair_from, Means};
+ghost use Rattle.comparisons.specs.Members.{number_in};
 
 use held::value::Value;
 use tray::records::Record;
@@ -26,8 +28,9 @@ impl Items {
     }
 
     // The record of item `j`. Past the end of a tray all records are nil, and so it does not matter which one it is there.
-    pub(crate) fn item(self, tray: &Tray, j: usize) -> usize
-        ensures { value_of tray.now result ≡ value_of tray.now (self.first + j) }
+    pub(crate) fn item(self, j: usize) -> usize
+        ensures number { result ≡ number_in self.first j }
+        ensures value { (t : Tray) → value_of t result ≡ value_of t (self.first + j) }
     {
         self.first.saturating_add(j)
     }

@@ -8,24 +8,56 @@ ghost use Rattle.meaning.specs.Things.{object};
 ghost use Rattle.meaning.specs.Hosts.{value_of as tree_of};
 ghost use Rattle.meaning.specs.Looking.{World};
 ghost use Rattle.meaning.specs.Tests.{among, has_key, in_items, in_keys};
+ghost use Rattle.comparisons.specs.Members.{members, equal_in};
 
 use crate::forms::{Form, Items, form_of};
 use crate::plain::{boolean_text, lay_number};
 use crate::same::same;
 use held::value::Value;
+use rows::row::Row;
+use rows::search::{Equality, first_match};
 use tray::trays::Tray;
 use values::finds::find;
+
+// Items as values in a tray. Each is given as an array: which kind it has, its record says.
+#[derive(Clone, Copy)]
+struct Members<'a> {
+    tray: &'a Tray<'a>,
+    items: Items,
+}
+
+impl<'a> Row for Members<'a> {
+    type Item = Value<&'a [u8]>;
+
+    ghost items = { λ m. members m.items.first m.items.count };
+
+    fn count(&self) -> usize {
+        self.items.count
+    }
+
+    fn item(&self, k: usize) -> Option<Value<&'a [u8]>> {
+        if k < self.items.count {
+            Some(Value::Array(self.items.item(k)))
+        } else {
+            None
+        }
+    }
+}
+
+impl<'a> Equality<Value<&'a [u8]>> for Members<'a> {
+    ghost equals = { λ m. equal_in m.tray.now };
+
+    fn same(&self, a: &Value<&'a [u8]>, b: &Value<&'a [u8]>) -> bool {
+        same(self.tray, *a, *b)
+    }
+}
 
 // Whether one of the items equals the value. Each is compared as what its record holds, of whatever kind that is.
 fn among(tray: &Tray, items: Items, sought: Value<&[u8]>) -> bool
     ensures { result ≡ among (tree_of (host_of tray.now) (held_by (λ t. t.now) sought.entry)) (items_from (value_of tray.now) items.first items.count) }
 {
-    for j in 0..items.count {
-        if same(tray, Value::Array(items.item(tray, j)), sought) {
-            return true;
-        }
-    }
-    false
+    let members = Members { tray, items };
+    first_match(&members, &members, &sought).is_some()
 }
 
 // Whether the value is an array that has an equal one in it. Nil is never found.

@@ -22,7 +22,7 @@ fn equal_items(tray: &Tray, a: Items, b: Items) -> bool
         return false;
     }
     for j in 0..a.count {
-        if !equal(tray, a.item(tray, j), b.item(tray, j)) {
+        if !equal(tray, a.item(j), b.item(j)) {
             return false;
         }
     }

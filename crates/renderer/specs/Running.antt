@@ -13,6 +13,7 @@ use Rattle.renderer.specs.declared.flow.Flow as code_flow
 use Rattle.renderer.specs.declared.flow.Flow.TheVariants.{Onward, Broken, Continued}
 use Rattle.renderer.specs.declared.machine.Mode.{Mode}
 use Rattle.renderer.specs.declared.machine.Mode.TheVariants.{Elements, Ended, Between, Closing}
+use Rattle.renderer.specs.Ends.{TargetFits}
 use Rattle.renderer.specs.Flows.{flow_of}
 use Rattle.frames.specs.declared.item.Item.{Item}
 use Rattle.frames.specs.Items.{item_of, items_in}
@@ -93,6 +94,7 @@ pub record SpellsArms (b : Pool) (ns : List Node) (next : Next) (room i e : ℕ)
 pub record Framed (f : code.Frame) (e : ℕ) : Type 0 where
   pub stop : f.end ≡ e
   pub times : length (items_of f) ≡ f.times
+  pub target : TargetFits 128 f.manner
 
 -- The frames hold the trees; the list of elements that is under way ends at e, and the template at `stop`.
 abbrev pub Holds : Pool → List Node → ℕ → List code.Frame → List Inside → ℕ → Type 0

@@ -1,21 +1,37 @@
 // Calls on a sheet.
-ghost use Rattle.std.specs.Prelude.{◌≡◌};
+ghost use Rattle.std.specs.Prelude.{◌≡◌, ◌≤◌, Some, length};
 ghost use Rattle.std.specs.Option.{option_map};
 ghost use Rattle.drawers.specs.Shown.{shows};
 ghost use Rattle.held.specs.Records.{held_in};
 ghost use Rattle.meaning.specs.Calls.{held_datum};
 ghost use Rattle.nodes.specs.Books.{names_in};
-ghost use Rattle.renderer.specs.Calls.{number_of, datum_of, named, PutDone};
+ghost use Rattle.held.specs.Scenes.{host_of, pool_of};
+ghost use Rattle.meaning.specs.Order.{OrderFree};
+ghost use Rattle.nodes.specs.Trees.{tree_at};
+ghost use Rattle.tree.specs.Elements.{Tree};
+ghost use Rattle.renderer.specs.Acts.{world};
+ghost use Rattle.renderer.specs.Leaves.{Few};
+ghost use Rattle.renderer.specs.Calls.{number_of, datum_of, named, PutDone, PageDone, Rendered};
 
+use crate::machine::running::run_to_end;
+use banks::bank::Bank;
 use drawers::kept::keep;
 use drawers::things::Drawers;
 use evaluation::names::part_in;
+use frames::frame::TrailRecord;
+use frames::trail::blank_trail;
 use held::faults::Fault;
+use held::scenes::Scene;
 use held::value::Value;
 use nodes::book::Book;
+use pages::cuts::zero_rest;
 use sheet::sheet::Sheet;
 use tray::names::is_reserved;
 use tray::parts::same_text;
+use tray::trays::Tray;
+
+// How many records a trail must have.
+const RECORDS: usize = 16;
 
 /// What `put` makes the variable of a name.
 #[derive(Clone, Copy)]
@@ -92,4 +108,67 @@ pub(crate) fn put(
     let value = keep(datum.value()).ok_or(Refused::NotPut)?;
     drawers.set_variable(n, value);
     Ok(())
+}
+
+/// Renders a template of the sheet with a tray and a bank, as the call of the definition: into the buffer, whose rest is zeros, and after a fault with the trail of its blocks.
+/// Calls may be made in any order that keeps the order of those that clash.
+pub(crate) fn render<B: Bank>(
+    sheet: &Sheet,
+    number: usize,
+    tray: &Tray,
+    drawers: &mut Drawers,
+    bank: &mut B,
+    out: &mut [u8],
+    trail: &mut [TrailRecord],
+) -> Result<Option<Faulted>, Refused>
+    ensures done { PageDone sheet.now (B.Bank.meaning bank.old) number (host_of tray.now) (shows drawers.old) (shows drawers.new) out.old out.new trail.old trail.new result }
+    ensures same { B.Bank.meaning bank.new ≡ B.Bank.meaning bank.old }
+    ensures order { OrderFree }
+{
+    let template = sheet.template(number).ok_or(Refused::NotRendered)?;
+    if trail.len() < RECORDS {
+        return Err(Refused::NotRendered);
+    }
+    let scene = Scene {
+        book: sheet.book(),
+        tray,
+    };
+    Ok(render_nodes(
+        scene,
+        template.from,
+        template.end,
+        drawers,
+        bank,
+        out,
+        trail,
+    ))
+}
+
+// Renders the template whose nodes are those from one up to another.
+fn render_nodes<B: Bank>(
+    scene: Scene,
+    from: usize,
+    end: usize,
+    drawers: &mut Drawers,
+    bank: &mut B,
+    out: &mut [u8],
+    trail: &mut [TrailRecord],
+) -> Option<Faulted>
+    ensures done { (t : Tree) → tree_at (pool_of scene.entry) scene.entry.book.nodes.now from end ≡ Some t → Few scene.entry → 16 ≤ length trail.old → Rendered (world scene.entry (B.Bank.meaning bank.old) (length out.old)) t (shows drawers.old) (shows drawers.new) out.old out.new trail.old trail.new result }
+    ensures same { B.Bank.meaning bank.new ≡ B.Bank.meaning bank.old }
+{
+    match run_to_end(scene, drawers, bank, from, end, out, trail) {
+        Ok(filled) => {
+            zero_rest(out, filled);
+            blank_trail(trail);
+            None
+        }
+        Err(failure) => {
+            zero_rest(out, failure.filled);
+            Some(Faulted {
+                fault: failure.fault,
+                place: failure.place,
+            })
+        }
+    }
 }

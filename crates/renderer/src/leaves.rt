@@ -3,10 +3,10 @@ ghost use Rattle.std.specs.Prelude.{◌≡◌};
 ghost use Rattle.drawers.specs.Shown.{shows};
 ghost use Rattle.renderer.specs.Leaves.{LeafDone};
 
+use crate::stdlib::leaf_tags::assign_tag::assign;
+use crate::stdlib::leaf_tags::cycle_tag::cycle;
+use crate::stdlib::leaf_tags::increment_tags::{decrement, increment};
 use crate::stdlib::output::{write_output, write_plain};
-use crate::stdlib::tags::assign_tag::assign;
-use crate::stdlib::tags::cycle_tag::cycle;
-use crate::stdlib::tags::increment_tags::{decrement, increment};
 use banks::bank::Bank;
 use drawers::things::Drawers;
 use frames::stack::Frames;

@@ -2,6 +2,7 @@
 
 #![tactic(auto)]
 
+mod call;
 mod calls;
 mod ends;
 mod flow;

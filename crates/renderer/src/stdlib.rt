@@ -1,3 +1,3 @@
 pub(crate) mod blocks;
+pub(crate) mod leaf_tags;
 pub(crate) mod output;
-pub(crate) mod tags;

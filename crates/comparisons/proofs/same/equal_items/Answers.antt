@@ -11,12 +11,12 @@ loop-j-init c = pair_none _ _ _ _ _
 
 pub returns-then-not-equal : goal.returns-then-not-equal
 returns-then-not-equal c =
-    let e = ap₂ equal c.item.ensures c.item-in-loop-j.ensures in
+    let e = let t = c.args.tray.now in ap₂ equal (c.item.ensures.value t) (c.item-in-loop-j.ensures.value t) in
     pair_stop c.loop-j.invariant (cc (e, c.equal.ensures.value)) (omega arith) (omega arith)
 
 pub loop-j-preserved : goal.loop-j-preserved
 loop-j-preserved c =
-    let e = ap₂ equal c.item.ensures c.item-in-loop-j.ensures in
+    let e = let t = c.args.tray.now in ap₂ equal (c.item.ensures.value t) (c.item-in-loop-j.ensures.value t) in
     pair_more c.loop-j.invariant (cc (e, c.equal.ensures.value)) (omega arith) (omega arith)
 
 pub returns : goal.returns

@@ -1,4 +1,4 @@
-use Rattle.std.proofs.Common.{◌≡◌, inl, inr, sym, subst, Ok}
+use Rattle.std.proofs.Common.{inl, inr, sym, subst, Ok}
 use Rattle.drawers.specs.Shown.{shows}
 use Rattle.renderer.specs.Leaves.{LeafDone}
 use Rattle.renderer.proofs.Leaving.{break_done, continue_done}

@@ -1,11 +1,11 @@
-use Rattle.std.proofs.Common.{◌≡◌, ap, sym, ◌∙◌, subst, Ok, Err}
+use Rattle.std.proofs.Common.{ap, sym, ◌∙◌, subst, Err}
 use Rattle.std.proofs.lemmas.Result.{err_from_is_err_and}
 use Rattle.drawers.specs.Shown.{shows}
 use Rattle.evaluation.specs.Chains.{CameThrough}
 use Rattle.held.specs.Records.{held_in}
 use Rattle.nodes.specs.declared.table.Leaf.TheVariants.{Output}
 use Rattle.renderer.specs.Leaves.{LeafDone}
-use Rattle.renderer.proofs.Leaving.{output_done, output_stops}
+use Rattle.renderer.proofs.Writing.{output_done, output_stops}
 use Rattle.renderer.proofs.stdlib.output.write_output.Goals as goal
 
 pub returns-in_err-came-clause-done : goal.returns-in_err-came-clause-done

@@ -1,4 +1,4 @@
-use Rattle.renderer.proofs.Leaving.{plain_done}
+use Rattle.renderer.proofs.Writing.{plain_done}
 use Rattle.renderer.proofs.stdlib.output.write_plain.Goals as goal
 
 pub returns : goal.returns
