@@ -9,7 +9,7 @@ pub mod Decodes
 pub mod Doing
 pub mod Endings
 pub mod Equals
-pub mod Finishing
+pub mod Finished
 pub mod Leaving
 pub mod Listing
 pub mod Opening

@@ -96,12 +96,7 @@ fn name_number(book: Book, name: &[u8]) -> Option<usize>
 }
 
 /// Makes a value the variable of a name of the sheet, as the call of the definition.
-pub(crate) fn put(
-    sheet: &Sheet,
-    drawers: &mut Drawers,
-    name: &[u8],
-    datum: Datum,
-) -> Result<(), Refused>
+pub fn put(sheet: &Sheet, drawers: &mut Drawers, name: &[u8], datum: Datum) -> Result<(), Refused>
     ensures { PutDone sheet.now name.now (datum_of datum.entry) (shows drawers.old) (shows drawers.new) result }
 {
     let n = name_number(sheet.book(), name).ok_or(Refused::NotPut)?;
@@ -112,7 +107,7 @@ pub(crate) fn put(
 
 /// Renders a template of the sheet with a tray and a bank, as the call of the definition: into the buffer, whose rest is zeros, and after a fault with the trail of its blocks.
 /// Calls may be made in any order that keeps the order of those that clash.
-pub(crate) fn render<B: Bank>(
+pub fn render<B: Bank>(
     sheet: &Sheet,
     number: usize,
     tray: &Tray,
