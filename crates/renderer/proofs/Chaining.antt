@@ -1,5 +1,5 @@
 -- Acts that leave drawers and text alone, one after the other.
-use Rattle.std.proofs.Common.{◌≡◌, ℕ, List, Ok, Err, ap, ◌∙◌}
+use Rattle.std.proofs.Common.{ℕ, Ok, Err, ap, ◌∙◌}
 use Rattle.std.specs.Prelude.{Result}
 use Rattle.held.specs.declared.faults.Fault.{Fault}
 use Rattle.meaning.specs.Frames.{Frames}

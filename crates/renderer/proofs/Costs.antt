@@ -1,5 +1,5 @@
 -- Each step of a rendering leaves fewer steps.
-use Rattle.std.proofs.Common.{◌≡◌, ℕ, zero, suc, ◌+◌, ◌-◌, ◌*◌, ◌^◌, ◌<◌, ◌≤◌, List, [], ◌∷◌, length, sym, refl, ap, ◌∙◌, subst, arith, mul-le-mul_right, mul-le-mul, mul-lt-mul_of_pos_right, add-mul, suc-mul, one-mul, mul_assoc, mul_comm, pow_pos}
+use Rattle.std.proofs.Common.{◌≡◌, ℕ, suc, ◌+◌, ◌-◌, ◌*◌, ◌^◌, ◌<◌, ◌≤◌, List, ◌∷◌, length, sym, ap, ◌∙◌, arith, mul-le-mul_right, mul-lt-mul_of_pos_right, add-mul, one-mul, mul_assoc, pow_pos}
 use Rattle.std.proofs.lemmas.Nat.{pow-add}
 use Rattle.frames.specs.declared.frame.Frame.{Frame}
 use Rattle.frames.specs.declared.frame.Manner.{Manner}
@@ -8,10 +8,9 @@ use Rattle.frames.specs.declared.item.Item.{Item}
 use Rattle.frames.specs.Visits.{visited}
 use Rattle.renderer.specs.declared.flow.Flow.{Flow}
 use Rattle.renderer.specs.declared.flow.Flow.TheVariants.{Onward, Broken, Continued}
-use Rattle.renderer.specs.declared.machine.Mode.{Mode}
 use Rattle.renderer.specs.declared.machine.Mode.TheVariants.{Elements, Ended, Between, Closing}
 use Rattle.renderer.specs.Running.{mode_after, mode_after_visit}
-use Rattle.renderer.specs.Costs.{weight, list_cost, frame_cost, frames_cost, mode_cost, cost}
+use Rattle.renderer.specs.Costs.{weight, list_cost, mode_cost, cost}
 
 weight_some : (k : ℕ) → 1 ≤ weight k
 weight_some k = pow_pos (20 * (16 - k))

@@ -1,5 +1,5 @@
 -- What stands where nodes spell elements or arms.
-use Rattle.std.proofs.Common.{◌≡◌, ℕ, zero, suc, ◌+◌, ◌-◌, ◌<◌, ◌≤◌, Bool, true, false, cond, ◌&&◌, eqb, ltb, leb, List, Some, None, Option, sym, refl, ap, ◌∙◌, arith}
+use Rattle.std.proofs.Common.{◌≡◌, ℕ, zero, suc, ◌+◌, ◌-◌, ◌<◌, ◌≤◌, Bool, true, false, cond, ◌&&◌, eqb, ltb, leb, List, Some, sym, refl, ◌∙◌, arith}
 use Rattle.std.proofs.lemmas.Bool.{eqb-true, ltb-true, leb-true, ne_eqb, lt-ltb, eq-eqb}
 use Rattle.std.specs.List.{slice_get}
 use Rattle.tree.specs.Expressions as tree_expr
@@ -8,18 +8,15 @@ use Rattle.tree.specs.Elements.{Tree, done, leaf, block, Arms, no_arms, arm}
 use Rattle.nodes.specs.declared.exprs.Expr.{Expr}
 use Rattle.nodes.specs.declared.table.Leaf.{Leaf}
 use Rattle.nodes.specs.declared.table.Block.{Block}
-use Rattle.nodes.specs.declared.table.Next.{Next}
-use Rattle.nodes.specs.declared.table.Next.TheVariants as next
-use Rattle.nodes.specs.declared.table.Arm.{Arm}
 use Rattle.nodes.specs.declared.table.Node.{Node}
 use Rattle.nodes.specs.declared.table.Node.TheVariants as node
-use Rattle.nodes.specs.Exprs.{Pool, expr_of, ◌so◌, where_so, only}
-use Rattle.nodes.specs.Trees.{leaf_of, block_of, guard_of, arm_of, arm_at, element_at, elements_of, arms_of}
+use Rattle.nodes.specs.Exprs.{Pool, expr_of, ◌so◌, where_so}
+use Rattle.nodes.specs.Trees.{leaf_of, block_of, element_at, elements_of, arms_of}
 use Rattle.nodes.proofs.Options.{none_some, some_is, so_parts, where_parts, only_parts}
 use Rattle.renderer.specs.Guards.{SpellsArm}
 use Rattle.renderer.specs.Running.{Spells, SpellsArms}
 
-both_parts : (a b : Bool) → (a && b) ≡ true → (a ≡ true) × (b ≡ true)
+pub both_parts : (a b : Bool) → (a && b) ≡ true → (a ≡ true) × (b ≡ true)
 both_parts true b h = (refl, h)
 both_parts false b h = let z : ◌≡◌ {A = ℕ} 0 1 = cc in absurd (omega arith)
 
@@ -127,6 +124,20 @@ module _ (b : Pool) (ns : List Node) where
   -- before the end of a list an element stands
   pub element_here : (room i e : ℕ) (t : Tree) (n : Node) → Spells b ns room i e t → i < e → slice_get ns i ≡ Some n → ElementAt b ns room i e t n
   element_here room i e t n h lt at = started h.steps room i e t n lt at h.is
+
+  -- a node is there
+  node_in_steps : (k room i e : ℕ) (t : Tree) → i < e → elements_of b ns k room i e ≡ Some t → (n : Node) × (slice_get ns i ≡ Some n)
+  node_in_steps zero room i e t lt h =
+      let same = eqb-true i e ((only_parts _ _ _ h).0) in
+      absurd (omega arith)
+  node_in_steps (suc k) room i e t lt h =
+      let same : eqb i e ≡ false = ne_eqb i e (λ p. omega arith) in
+      let (less, rest) = where_parts (ltb i e) (slice_get ns i so λ n. element_at b ns (λ r a z. elements_of b ns k r a z) (λ x r a z. arms_of b ns k x r a z) room i e n) t (sym (rw same refl) ∙ h) in
+      let (n, is, more) = so_parts _ _ _ rest in
+      (n, is)
+
+  pub node_here : (room i e : ℕ) (t : Tree) → Spells b ns room i e t → i < e → (n : Node) × (slice_get ns i ≡ Some n)
+  node_here room i e t h lt = node_in_steps h.steps room i e t lt h.is
 
   ended : (k room i e : ℕ) (t : Tree) → i ≡ e → elements_of b ns k room i e ≡ Some t → t ≡ done
   ended zero room i e t eq h = sym ((only_parts _ _ _ h).1)

@@ -1,6 +1,5 @@
 -- What stands in the buffer at the ends of visits and blocks.
 use Rattle.std.proofs.Common.{◌≡◌, ℕ, ◌+◌, ◌<◌, ◌≤◌, Bool, true, false, cond, ◌||◌, List, ◌++◌, length, take, drop, min, Some, None, Ok, Err, sym, refl, ap, ap₂, ◌∙◌, subst, arith, take-append-drop}
-use Rattle.std.proofs.lemmas.List.{length-take-le, take-take}
 use Rattle.std.proofs.lemmas.Grind.{common_steps}
 use Rattle.std.specs.Prelude.{Result, nat_le}
 use Rattle.tray.specs.Parts.{same_text}
@@ -10,15 +9,15 @@ use Rattle.frames.specs.declared.frame.Manner as code_manner
 use Rattle.frames.specs.declared.frame.Manner.TheVariants.{Once, Each, Cells, Keeping, Watching}
 use Rattle.frames.specs.Views.{manner_of}
 use Rattle.pages.specs.Pieces.{Emits}
-use Rattle.pages.specs.Written.{to, Did, Wrote}
+use Rattle.pages.specs.Written.{Did, Wrote}
 use Rattle.meaning.specs.Things.{Drawers, name, changed, altered, text, with_variable, with_shown}
-use Rattle.meaning.specs.Frames.{Frames, cells, keeping, watching, row_number, column, is_col_first, is_col_last}
+use Rattle.meaning.specs.Frames.{Frames, keeping, watching}
 use Rattle.meaning.specs.Acts.{Act, Step, step, gives, stops, fault_at, go_on, ◌and_then◌, still, pure, faults, emit, append, look, alter}
 use Rattle.meaning.specs.Looking.{World}
 use Rattle.meaning.specs.Leaves.{Flow}
-use Rattle.meaning.specs.Blocks.{mark_if, row_mark, cell_mark, cell_end, row_end, is_broken, enters, leaves, closed, keep_text, show_text}
+use Rattle.meaning.specs.Blocks.{mark_if, enters, leaves, closed, keep_text, show_text}
 use Rattle.renderer.specs.declared.ends.Stopped.{Stopped}
-use Rattle.renderer.specs.Ends.{stopping, text_end, came_to, Ends}
+use Rattle.renderer.specs.Ends.{stopping, Ends}
 
 -- nothing is written
 pub silent : {A : Type 0} (a : A) (p : ℕ) (e : Frames) (d : Drawers) (filled : ℕ) (out : List ℕ) → filled ≤ length out → Ends (pure a d (take filled out)) a p e d (length out) out (Ok filled)

@@ -1,3 +1,4 @@
+pub mod Arming
 pub mod Assigning
 pub mod Chaining
 pub mod Conditions
@@ -8,7 +9,9 @@ pub mod Decodes
 pub mod Doing
 pub mod Endings
 pub mod Equals
+pub mod Finished
 pub mod Leaving
+pub mod Listing
 pub mod Opening
 pub mod Paging
 pub mod Passing
@@ -16,5 +19,7 @@ pub mod Putting
 pub mod Rows
 pub mod Runs
 pub mod Sequence
+pub mod Stepping
 pub mod Taking
+pub mod Whole
 pub mod Writing

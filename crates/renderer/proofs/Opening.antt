@@ -1,5 +1,5 @@
 -- What openings come to.
-use Rattle.std.proofs.Common.{◌≡◌, ℕ, zero, suc, ◌+◌, ◌<◌, ◌≤◌, min, Bool, true, false, cond, List, [], ◌∷◌, map, length, nat_lt, ℤ, pos, negsuc, Some, None, Ok, Err, Option, refl, ap, ap₂, sym, subst, ◌∙◌, arith}
+use Rattle.std.proofs.Common.{◌≡◌, ℕ, zero, suc, ◌<◌, ◌≤◌, min, Bool, true, false, cond, List, [], ◌∷◌, map, length, nat_lt, ℤ, pos, negsuc, Some, None, Ok, Err, Option, refl, ap, sym, subst, ◌∙◌, arith}
 use Rattle.std.specs.Prelude.{Result}
 use Rattle.std.specs.Borrow.{Bor}
 use Rattle.std.specs.Option.{option_map, ok_or, unwrap_or}
@@ -23,10 +23,8 @@ use Rattle.held.specs.declared.faults.Fault.{Fault}
 use Rattle.held.specs.declared.faults.Fault.TheVariants.{NoRow, LongRange, NoColumn}
 use Rattle.held.specs.declared.scenes.Scene.{Scene}
 use Rattle.held.specs.declared.value.Value.{Value}
-use Rattle.held.specs.Faults.{ended}
 use Rattle.held.specs.Records.{held_in}
-use Rattle.held.specs.Scenes.{host_in, pool_of, Fits}
-use Rattle.frames.specs.declared.item.Item.{Item}
+use Rattle.held.specs.Scenes.{host_in, pool_of}
 use Rattle.frames.specs.declared.item.Item.TheVariants as item
 use Rattle.frames.specs.declared.item.AnyRow.{AnyRow}
 use Rattle.frames.specs.declared.item.AnyRow.TheVariants as any

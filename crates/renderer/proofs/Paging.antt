@@ -1,5 +1,5 @@
 -- What a rendered ticket is as a call.
-use Rattle.std.proofs.Common.{◌≡◌, ℕ, zero, suc, ◌≤◌, ◌<◌, true, cond, List, [], ◌∷◌, ◌++◌, length, map, take, replicate, is_some, vec_items, Some, None, Ok, Err, Option, refl, ap, ap₂, sym, subst, ◌∙◌, arith}
+use Rattle.std.proofs.Common.{◌≡◌, ℕ, zero, suc, ◌≤◌, ◌<◌, true, cond, List, [], ◌∷◌, ◌++◌, length, map, take, replicate, is_some, vec_items, Some, None, Ok, Err, Option, refl, ap, ap₂, sym, ◌∙◌, arith}
 use Rattle.std.specs.List.{slice_get}
 use Rattle.std.proofs.lemmas.Bool.{le-leb, lt-leb}
 use Rattle.std.specs.Option.{unwrap_or}
@@ -18,11 +18,10 @@ use Rattle.renderer.specs.declared.calls.Refused.TheVariants.{NotRendered}
 use Rattle.renderer.specs.Calls.{sheet_of, stood, records_in, fault_of, page_result, PageDone, EndedSo, Rendered}
 use Rattle.meaning.specs.Things.{Drawers}
 use Rattle.meaning.specs.Hosts.{Host}
-use Rattle.meaning.specs.Frames.{Frame, Frames, TrailRecord, blank, stands, trail_record, trail_of, sixteen}
-use Rattle.meaning.specs.Acts.{End, gives, stops, Step, step, Fault, pure, still}
+use Rattle.meaning.specs.Frames.{Frames, TrailRecord, blank, trail_record, trail_of, sixteen}
+use Rattle.meaning.specs.Acts.{End, step, still}
 use Rattle.meaning.specs.Looking.{World}
 use Rattle.meaning.specs.Leaves.{Flow}
-use Rattle.meaning.specs.Rendering.{render}
 use Rattle.meaning.specs.Calls.{Result, Judged, refusal, renders, judged_page, perform, page, result, act, drawers_after, ticket, rendered, filled}
 
 stood_blank : (k m : ℕ) → stood (take k (replicate m blank)) ≡ []

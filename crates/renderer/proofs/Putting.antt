@@ -12,10 +12,10 @@ use Rattle.sheet.specs.declared.sheet.Sheet as code
 use Rattle.sheet.specs.Sheets.{lists}
 use Rattle.nodes.proofs.Options.{none_some, some_is}
 use Rattle.renderer.specs.declared.calls.Refused.TheVariants.{NotPut}
-use Rattle.renderer.specs.Calls.{sheet_of, named, put_result, PutDone}
+use Rattle.renderer.specs.Calls.{sheet_of, named, PutDone}
 use Rattle.meaning.specs.Things.{Drawers, Held, name, altered, with_variable}
-use Rattle.meaning.specs.Acts.{pure, still, alter, ◌and_then◌}
-use Rattle.meaning.specs.Leaves.{onward, short_enough}
+use Rattle.meaning.specs.Acts.{still, alter, ◌and_then◌}
+use Rattle.meaning.specs.Leaves.{short_enough}
 use Rattle.meaning.specs.Calls.{Judged, refusal, sets, judged_put, short_datum, held_datum, perform, put, result, act, drawers_after}
 
 -- the number of a name is below the count of names

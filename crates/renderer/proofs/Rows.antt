@@ -1,5 +1,5 @@
 -- Rows of items as lists of values.
-use Rattle.std.proofs.Common.{◌≡◌, ℕ, ◌+◌, Bool, true, false, cond, List, [], ◌∷◌, ◌++◌, map, reverse, length, ℤ, pos, Some, None, Option, refl, ap, sym, ◌∙◌, arith}
+use Rattle.std.proofs.Common.{◌≡◌, ℕ, ◌+◌, Bool, true, false, cond, List, [], ◌∷◌, ◌++◌, map, reverse, ℤ, Some, Option, refl, ap, sym, ◌∙◌}
 use Rattle.std.specs.Option.{option_map}
 use Rattle.std.proofs.lemmas.List.{reverse-append}
 use Rattle.tray.specs.declared.records.Record.{Record}
@@ -14,7 +14,7 @@ use Rattle.frames.specs.Items.{item_of}
 use Rattle.meaning.specs.Hosts.{Host}
 use Rattle.meaning.specs.Rows.{record_row}
 use Rattle.renderer.specs.Openings.{row_items}
-use Rattle.rows.specs.Windows.{windowed, kept_from, in_window, turned}
+use Rattle.rows.specs.Windows.{windowed, kept_from, in_window}
 
 mapped_join : {X Y : Type 0} (f : X → Y) (xs ys : List X) → map f (xs ++ ys) ≡ map f xs ++ map f ys
 mapped_join f [] ys = refl

@@ -1,5 +1,5 @@
 -- One step of a rendering.
-use Rattle.std.proofs.Common.{◌≡◌, ℕ, zero, suc, ◌+◌, ◌-◌, ◌<◌, ◌≤◌, List, [], ◌∷◌, map, length, drop, Some, eqb, get_or, sym, refl, ap, ap₂, ◌∙◌, subst, arith, add-one, drop-cons}
+use Rattle.std.proofs.Common.{◌≡◌, ℕ, suc, ◌+◌, ◌-◌, ◌<◌, ◌≤◌, List, [], ◌∷◌, map, length, drop, Some, sym, refl, ap, ap₂, ◌∙◌, subst, arith, drop-cons}
 use Rattle.std.proofs.lemmas.Bool.{eq-eqb}
 use Rattle.std.proofs.lemmas.List.{drop-map}
 use Rattle.std.proofs.lemmas.Option.{get_or_from_slice_get}
@@ -20,9 +20,9 @@ use Rattle.frames.specs.Views.{manner_of, frames_of}
 use Rattle.frames.specs.Visits.{visited as at_visit}
 use Rattle.meaning.specs.Things.{Drawers, Held}
 use Rattle.meaning.specs.Frames.{Manner, Frames}
-use Rattle.meaning.specs.Acts.{Act, Step, step, gives, stops, Fault, go_on, ◌and_then◌, pure, still}
+use Rattle.meaning.specs.Acts.{Act, Step, step, gives, stops, Fault, go_on, ◌and_then◌, still}
 use Rattle.meaning.specs.Looking.{World}
-use Rattle.meaning.specs.Leaves.{Flow, onward, broken, continued, leaf_act}
+use Rattle.meaning.specs.Leaves.{Flow, onward, leaf_act}
 use Rattle.meaning.specs.Openings.{Opening, opened}
 use Rattle.meaning.specs.Blocks.{visits, visit, visited, enters, leaves, after_visit, closed, around, after_element}
 use Rattle.meaning.specs.Rendering.{render, taken}
@@ -30,8 +30,9 @@ use Rattle.renderer.specs.declared.flow.Flow as code_flow
 use Rattle.renderer.specs.declared.flow.Flow.TheVariants.{Onward, Broken, Continued}
 use Rattle.renderer.specs.declared.machine.Mode.{Mode}
 use Rattle.renderer.specs.declared.machine.Mode.TheVariants.{Elements, Ended, Between, Closing}
+use Rattle.renderer.specs.Ends.{TargetFits}
 use Rattle.renderer.specs.Flows.{flow_of}
-use Rattle.renderer.specs.Running.{Inside, items_of, left_of, more, after_body, after_block, resume, shut, next_visits, run, Spells, Framed, Holds, Going, mode_after, mode_after_visit}
+use Rattle.renderer.specs.Running.{Inside, items_of, more, after_block, resume, shut, next_visits, run, Spells, Holds, Going, mode_after, mode_after_visit}
 use Rattle.renderer.proofs.Decodes.{LeafAt, BlockAt, nothing_here}
 
 -- a fault goes through a block that is closed
@@ -125,48 +126,50 @@ module _ (b : Pool) (ns : List Node) (stop : ℕ) (w : World) where
           ∙ ap (λ s. resume w fs g.inside (go_on s (λ op. then_arms op and_then then_rest))) did
           ∙ resume_fault fs g.inside e d o q g.held
 
-      module _ (op : Opening) (did : opened w x.opened p around_here d o ≡ step d o (gives op)) where
-        arms_left : resume w fs g.inside (go_on (then_arms op d o) then_rest) ≡ fin
-        unfolding ◌and_then◌
-        arms_left = sym (ap (λ s. resume w fs g.inside (go_on s (λ y. then_arms y and_then then_rest))) did) ∙ begun
+      pub arms_left : (op : Opening) → opened w x.opened p around_here d o ≡ step d o (gives op) → resume w fs g.inside (go_on (then_arms op d o) then_rest) ≡ fin
+      unfolding ◌and_then◌
+      arms_left op did = sym (ap (λ s. resume w fs g.inside (go_on s (λ y. then_arms y and_then then_rest))) did) ∙ begun
 
-        pub guard_fault : (q : Fault) → then_arms op d o ≡ step d o (stops q) → fin ≡ step d (cutback fs o) (stops q)
-        guard_fault q stopped = sym arms_left ∙ ap (λ s. resume w fs g.inside (go_on s then_rest)) stopped ∙ resume_fault fs g.inside e d o q g.held
+    -- The arms of a block that is opened.
+    module _ (ts : List Inside) (held : Holds b ns stop fs ts e) (p end : ℕ) (op : Opening) (k : tree.Block) (arms : Arms) (rest : Tree) (spelt : Spells b ns (16 - length fs) end e rest)
+        (left : resume w fs ts (go_on (taken w k p op arms around_here d o) (λ r. after_element r (render w rest around_here))) ≡ fin) where
+      abbrev arms_here : Act Flow
+      arms_here = taken w k p op arms around_here
 
-        pub no_arm : then_arms op d o ≡ step d o (gives onward) → Going b ns stop w Elements end e fs d o fin
-        no_arm none = record {
-          list = x.rest;
-          inside = g.inside;
-          spelt = x.spelt;
-          held = g.held;
-          comes = sym (ap (λ s. resume w fs g.inside (go_on s then_rest)) none) ∙ arms_left;
-        }
+      abbrev behind : Flow → Act Flow
+      behind f = after_element f (render w rest around_here)
 
-        -- the arm that is taken: its frame is opened before its first visit
-        pub arm_taken : (f : code.Frame) (body : Tree) →
-            (then_arms op d o ≡ around (manner_of f.manner) p around_here (visits (manner_of f.manner) (visit w (manner_of f.manner) p around_here (λ e'. render w body e')) (visited (manner_of f.manner) op) 1) d o) →
-            Spells b ns (16 - length fs - 1) f.body f.end body →
-            (f.place ≡ p) × (f.visit ≡ 0) × (f.next ≡ end) × (f.outer ≡ e) × (f.mark ≡ length o) →
-            map (item_of h) (items_of f) ≡ visited (manner_of f.manner) op → length (items_of f) ≡ f.times →
-            Going b ns stop w Between f.end f.end (f ∷ fs) d o fin
-        unfolding around
-        arm_taken f body took spelt (place, visit_is, next, outer, mark) items times =
-            let m = manner_of f.manner in
-            let same : ◌≡◌ {A = ℕ × ℕ × ℕ × List Held} (f.place, f.mark, f.visit, map (item_of h) (items_of f)) (p, length o, 0, visited m op) = λ i. (place i, mark i, visit_is i, items i) in
-            record {
-              list = done;
-              inside = record { body = body; rest = x.rest } ∷ g.inside;
-              spelt = record { steps = 0; is = ap (λ c. only c done) (eq-eqb f.end f.end refl) };
-              held = (
-                record { stop = refl; times = times },
-                subst (λ r. Spells b ns r f.body f.end body) (omega (arith, x.some)) spelt,
-                subst (λ y. Spells b ns (16 - length fs) y f.outer x.rest) (sym next) (subst (λ y. Spells b ns (16 - length fs) end y x.rest) (sym outer) x.spelt),
-                subst (λ y. Holds b ns stop fs g.inside y) (sym outer) g.held,
-              );
-              comes =
-                  ap (λ k. resume w fs g.inside (go_on (closed m k.0 around_here k.1 (visits m (visit w m k.0 around_here (λ e'. render w body e')) (drop k.2 k.3) (k.2 + 1) d o)) then_rest)) same
-                  ∙ sym (ap (λ s. resume w fs g.inside (go_on s then_rest)) took) ∙ arms_left;
-            }
+      pub guard_fault : (q : Fault) → arms_here d o ≡ step d o (stops q) → fin ≡ step d (cutback fs o) (stops q)
+      guard_fault q stopped = sym left ∙ ap (λ s. resume w fs ts (go_on s behind)) stopped ∙ resume_fault fs ts e d o q held
+
+      pub no_arm : arms_here d o ≡ step d o (gives onward) → Going b ns stop w Elements end e fs d o fin
+      no_arm none = record { list = rest; inside = ts; spelt = spelt; held = held; comes = sym (ap (λ s. resume w fs ts (go_on s behind)) none) ∙ left }
+
+      -- the arm that is taken: its frame is opened before its first visit
+      pub arm_taken : (f : code.Frame) (body : Tree) → 0 < 16 - length fs →
+          (arms_here d o ≡ around (manner_of f.manner) p around_here (visits (manner_of f.manner) (visit w (manner_of f.manner) p around_here (λ e'. render w body e')) (visited (manner_of f.manner) op) 1) d o) →
+          Spells b ns (16 - length fs - 1) f.body f.end body →
+          (f.place ≡ p) × (f.visit ≡ 0) × (f.next ≡ end) × (f.outer ≡ e) × (f.mark ≡ length o) →
+          map (item_of h) (items_of f) ≡ visited (manner_of f.manner) op → length (items_of f) ≡ f.times → TargetFits 128 f.manner →
+          Going b ns stop w Between f.end f.end (f ∷ fs) d o fin
+      unfolding around
+      arm_taken f body some took inner (place, visit_is, next, outer, mark) items times target =
+          let m = manner_of f.manner in
+          let same : ◌≡◌ {A = ℕ × ℕ × ℕ × List Held} (f.place, f.mark, f.visit, map (item_of h) (items_of f)) (p, length o, 0, visited m op) = λ i. (place i, mark i, visit_is i, items i) in
+          record {
+            list = done;
+            inside = record { body = body; rest = rest } ∷ ts;
+            spelt = record { steps = 0; is = ap (λ c. only c done) (eq-eqb f.end f.end refl) };
+            held = (
+              record { stop = refl; times = times; target = target },
+              subst (λ r. Spells b ns r f.body f.end body) (omega (arith, some)) inner,
+              subst (λ y. Spells b ns (16 - length fs) y f.outer rest) (sym next) (subst (λ y. Spells b ns (16 - length fs) end y rest) (sym outer) spelt),
+              subst (λ y. Holds b ns stop fs ts y) (sym outer) held,
+            );
+            comes =
+                ap (λ k. resume w fs ts (go_on (closed m k.0 around_here k.1 (visits m (visit w m k.0 around_here (λ e'. render w body e')) (drop k.2 k.3) (k.2 + 1) d o)) behind)) same
+                ∙ sym (ap (λ s. resume w fs ts (go_on s behind)) took) ∙ left;
+          }
 
   module _ (at e : ℕ) (f : code.Frame) (fs : List code.Frame) (d : Drawers) (o : List ℕ) (fin : Step Flow) where
     abbrev Inner : Mode → Type 0
@@ -261,7 +264,7 @@ module _ (b : Pool) (ns : List Node) (stop : ℕ) (w : World) where
           list = t.body;
           inside = t ∷ ts;
           spelt = k.1;
-          held = (record { stop = refl; times = k.0.times }, k.1, k.2, k.3);
+          held = (record { stop = refl; times = k.0.times; target = k.0.target }, k.1, k.2, k.3);
           comes = sym (entered_then x o' t ts (omega (arith, lt, k.0.times)) is (subst (λ i. enters w m i f.place outside d o ≡ step d o' (gives tt)) same did)) ∙ r;
         }
 

@@ -1,5 +1,5 @@
 -- Calls with the memory that their results are left in.
-use Rattle.std.specs.Prelude.{ℕ, List, length}
+use Rattle.std.specs.Prelude.{length}
 use Rattle.held.specs.Scenes.{host_of}
 use Rattle.renderer.specs.declared.call.Call as code
 use Rattle.renderer.specs.declared.call.Call.TheVariants.{Put, Render}

@@ -1,6 +1,6 @@
 -- What the calls on a sheet answer and leave: all of it as the definition has it.
 use Rattle.std.specs.Prelude.{◌≡◌, ℕ, ◌≤◌, cond, List, [], ◌∷◌, map, length, take, drop, Some, None, Ok, Err, Option, Result, OnErr}
-use Rattle.std.specs.Option.{option_map, unwrap_or}
+use Rattle.std.specs.Option.{unwrap_or}
 use Rattle.rows.specs.First.{first_from}
 use Rattle.tray.specs.Parts.{same_text}
 use Rattle.tray.specs.Sound.{reserved}

@@ -1,10 +1,14 @@
 pub mod Acts
+pub mod Arms
+pub mod Call
 pub mod Calls
 pub mod Costs
 pub mod Ends
 pub mod Flows
 pub mod Guards
 pub mod Leaves
+pub mod Machines
 pub mod Openings
+pub mod Rendered
 pub mod Running
-pub mod Call
+pub mod Visiting

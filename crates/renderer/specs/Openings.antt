@@ -1,5 +1,5 @@
 -- What calls that open blocks answer, as the definition's acts.
-use Rattle.std.specs.Prelude.{◌≡◌, ℕ, Bool, List, map, length, ℤ, Some, None, Ok, Err, Option, Result}
+use Rattle.std.specs.Prelude.{◌≡◌, ℕ, Bool, List, map, length, ℤ, Some, Ok, Err, Option, Result}
 use Rattle.rows.specs.Windows.{windowed}
 use Rattle.rows.specs.declared.window.Window.{Window}
 use Rattle.nodes.specs.declared.exprs.Expr.{Expr}

@@ -1,5 +1,5 @@
 -- What is left of a ticket from inside its open blocks, said with the acts of the definition.
-use Rattle.std.specs.Prelude.{◌≡◌, ℕ, ◌+◌, ◌-◌, ◌≤◌, List, [], ◌∷◌, map, length, drop, Some}
+use Rattle.std.specs.Prelude.{◌≡◌, ℕ, ◌+◌, ◌-◌, List, [], ◌∷◌, map, length, drop, Some}
 use Rattle.rows.specs.Windows.{windowed}
 use Rattle.tree.specs.Elements.{Tree, Arms}
 use Rattle.nodes.specs.declared.table.Node.{Node}
@@ -13,12 +13,12 @@ use Rattle.renderer.specs.declared.flow.Flow as code_flow
 use Rattle.renderer.specs.declared.flow.Flow.TheVariants.{Onward, Broken, Continued}
 use Rattle.renderer.specs.declared.machine.Mode.{Mode}
 use Rattle.renderer.specs.declared.machine.Mode.TheVariants.{Elements, Ended, Between, Closing}
+use Rattle.renderer.specs.Ends.{TargetFits}
 use Rattle.renderer.specs.Flows.{flow_of}
 use Rattle.frames.specs.declared.item.Item.{Item}
 use Rattle.frames.specs.Items.{item_of, items_in}
 use Rattle.frames.specs.Views.{manner_of, frames_of}
 use Rattle.meaning.specs.Things.{Drawers, Held}
-use Rattle.meaning.specs.Frames.{Frames}
 use Rattle.meaning.specs.Acts.{Act, Step, step, gives, go_on}
 use Rattle.meaning.specs.Looking.{World}
 use Rattle.meaning.specs.Leaves.{Flow, onward}
@@ -93,6 +93,7 @@ pub record SpellsArms (b : Pool) (ns : List Node) (next : Next) (room i e : ℕ)
 pub record Framed (f : code.Frame) (e : ℕ) : Type 0 where
   pub stop : f.end ≡ e
   pub times : length (items_of f) ≡ f.times
+  pub target : TargetFits 128 f.manner
 
 -- The frames hold the trees; the list of elements that is under way ends at e, and the template at `stop`.
 abbrev pub Holds : Pool → List Node → ℕ → List code.Frame → List Inside → ℕ → Type 0

@@ -13,15 +13,18 @@ ghost use Rattle.renderer.specs.Acts.{world};
 ghost use Rattle.renderer.specs.Leaves.{Few};
 ghost use Rattle.renderer.specs.Calls.{number_of, datum_of, named, PutDone, PageDone, Rendered};
 
+use crate::machine::running::run_to_end;
 use banks::bank::Bank;
 use drawers::kept::keep;
 use drawers::things::Drawers;
 use evaluation::names::part_in;
 use frames::frame::TrailRecord;
+use frames::trail::blank_trail;
 use held::faults::Fault;
 use held::scenes::Scene;
 use held::value::Value;
 use nodes::book::Book;
+use pages::cuts::zero_rest;
 use sheet::sheet::Sheet;
 use tray::names::is_reserved;
 use tray::parts::same_text;
@@ -93,12 +96,7 @@ fn name_number(book: Book, name: &[u8]) -> Option<usize>
 }
 
 /// Makes a value the variable of a name of the sheet, as the call of the definition.
-pub(crate) fn put(
-    sheet: &Sheet,
-    drawers: &mut Drawers,
-    name: &[u8],
-    datum: Datum,
-) -> Result<(), Refused>
+pub fn put(sheet: &Sheet, drawers: &mut Drawers, name: &[u8], datum: Datum) -> Result<(), Refused>
     ensures { PutDone sheet.now name.now (datum_of datum.entry) (shows drawers.old) (shows drawers.new) result }
 {
     let n = name_number(sheet.book(), name).ok_or(Refused::NotPut)?;
@@ -109,7 +107,7 @@ pub(crate) fn put(
 
 /// Renders a template of the sheet with a tray and a bank, as the call of the definition: into the buffer, whose rest is zeros, and after a fault with the trail of its blocks.
 /// Calls may be made in any order that keeps the order of those that clash.
-pub(crate) fn render<B: Bank>(
+pub fn render<B: Bank>(
     sheet: &Sheet,
     number: usize,
     tray: &Tray,
@@ -154,5 +152,18 @@ fn render_nodes<B: Bank>(
     ensures done { (t : Tree) → tree_at (pool_of scene.entry) scene.entry.book.nodes.now from end ≡ Some t → Few scene.entry → 16 ≤ length trail.old → Rendered (world scene.entry (B.Bank.meaning bank.old) (length out.old)) t (shows drawers.old) (shows drawers.new) out.old out.new trail.old trail.new result }
     ensures same { B.Bank.meaning bank.new ≡ B.Bank.meaning bank.old }
 {
-    None
+    match run_to_end(scene, drawers, bank, from, end, out, trail) {
+        Ok(filled) => {
+            zero_rest(out, filled);
+            blank_trail(trail);
+            None
+        }
+        Err(failure) => {
+            zero_rest(out, failure.filled);
+            Some(Faulted {
+                fault: failure.fault,
+                place: failure.place,
+            })
+        }
+    }
 }

@@ -104,6 +104,7 @@ pub(crate) enum First {
 }
 
 /// An arm that is taken: its elements are the nodes from `body` up to `end`.
+#[derive(Clone, Copy)]
 pub(crate) struct Chosen {
     pub(crate) guard: Guard,
     pub(crate) body: usize,

@@ -2,8 +2,8 @@
 
 #![tactic(auto)]
 
-mod call;
-mod calls;
+pub mod call;
+pub mod calls;
 mod ends;
 mod flow;
 mod guards;

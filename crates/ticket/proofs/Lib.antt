@@ -1,3 +1,4 @@
 pub mod Goes
 pub mod Lines
+pub mod Numbered
 pub mod Spells

@@ -1,5 +1,6 @@
 -- The line of a template in which a place is marked.
-use Rattle.std.specs.Prelude.{ℕ, ◌+◌, Bool, cond, List, [], ◌∷◌, ◌++◌, ◌==◌, nat_lt, map, take, drop, count_by, codes}
+use Rattle.std.specs.Prelude.{ℕ, ◌+◌, Bool, cond, List, [], ◌∷◌, ◌++◌, ◌==◌, nat_lt, length, map, take, drop, count_by, codes}
+use Rattle.std.specs.Fmt.{decimal}
 use Rattle.std.specs.List.{flat_map, before_first, after_last}
 use Rattle.ticket.specs.Names.{between}
 
@@ -16,6 +17,13 @@ before_of place text = after_last is_end (take place text)
 
 abbrev pub behind_of : ℕ → List ℕ → List ℕ
 behind_of place text = before_first is_end (drop place text)
+
+-- a place, its line, and its column, behind so many bytes of the line
+abbrev pub spot_words : ℕ → ℕ → ℕ → List ℕ
+spot_words place line before = codes " place=" ++ (decimal place ++ (codes " line=" ++ (decimal line ++ (codes " column=" ++ decimal (before + 1)))))
+
+abbrev pub place_words : ℕ → List ℕ → List ℕ
+place_words place text = spot_words place (line_of place text) (length (before_of place text))
 
 -- a control byte is shown as ?
 abbrev pub plain : ℕ → ℕ

@@ -1,8 +1,12 @@
 pub mod Bounds
+pub mod Calls
+pub mod Contents
 pub mod Excerpt
+pub mod Found
 pub mod Load
 pub mod Loaded
 pub mod Names
+pub mod Plain
 pub mod Quote
 pub mod Show
 pub mod Spelling

@@ -1,5 +1,5 @@
 -- What is printed when a template is loaded.
-use Rattle.std.specs.Prelude.{ℕ, ◌+◌, ◌-◌, List, [], ◌∷◌, ◌++◌, length, map, codes, Result, Ok, Err}
+use Rattle.std.specs.Prelude.{ℕ, ◌-◌, List, [], ◌∷◌, ◌++◌, map, codes, Result, Ok, Err}
 use Rattle.std.specs.Fmt.{decimal}
 use Rattle.arguments.specs.Refusals.{number_of, words_of}
 use Rattle.arguments.specs.declared.refusals.Refusal.{Refusal}
@@ -8,18 +8,14 @@ use Rattle.arguments.specs.declared.refusals.Stop.TheVariants.{Refused, Memory}
 use Rattle.tray.specs.Parts.{cut}
 use Rattle.ticket.specs.declared.json.document.Part.{Part}
 use Rattle.ticket.specs.declared.load.Loaded.{Loaded}
-use Rattle.ticket.specs.Excerpt.{line_of, before_of, behind_of, plain, excerpt}
+use Rattle.ticket.specs.Excerpt.{before_of, behind_of, plain, place_words, excerpt}
 
 abbrev pub loaded_words : Loaded → List ℕ
 loaded_words l = codes " ok template=" ++ (decimal l.template ++ (codes " nodes=" ++ (decimal l.nodes ++ (10 ∷ []))))
 
--- a refusal at a place, which stands in this line, behind so many bytes of it
-abbrev pub refusal_words : Refusal → ℕ → ℕ → ℕ → List ℕ
-refusal_words r place line before = codes " refused " ++ (decimal (number_of r) ++ (codes " place=" ++ (decimal place ++ (codes " line=" ++ (decimal line ++ (codes " column=" ++ (decimal (before + 1) ++ (codes ": " ++ (words_of r ++ (10 ∷ []))))))))))
-
--- a refusal in a text, and the line of its place
+-- a refusal at a place in a text, and the line of its place
 abbrev pub refused_words : Refusal → ℕ → List ℕ → List ℕ
-refused_words r place text = refusal_words r place (line_of place text) (length (before_of place text)) ++ excerpt (before_of place text) (behind_of place text)
+refused_words r place text = codes " refused " ++ (decimal (number_of r) ++ (place_words place text ++ (codes ": " ++ (words_of r ++ (10 ∷ excerpt (before_of place text) (behind_of place text))))))
 
 -- behind the name of the template, which is this part of the source
 abbrev pub answer_words : List ℕ → Part → Result Loaded Stop → List ℕ

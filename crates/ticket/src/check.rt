@@ -1,5 +1,6 @@
 //! Templates of files, for their authors.
 
+use crate::console::Console;
 use crate::job::Job;
 use crate::run::run;
 use anyhow::{Context, bail};
@@ -8,10 +9,10 @@ use std::env::Args;
 use std::fs;
 
 // Loads each file as a template of its name into one sheet. Files before one that cannot be read are loaded first.
-pub(crate) fn check(rt: &HostRuntime, files: Args<Global>) -> anyhow::Result<bool> {
-    let mut job = Job::new(rt.alloc());
-    let read = read_files(rt, files, &mut job);
-    let all_loaded = run(rt, &job)?;
+pub(crate) fn check(console: Console<'_>, files: Args<Global>) -> anyhow::Result<bool> {
+    let mut job = Job::new(console.heap());
+    let read = read_files(console.rt, files, &mut job);
+    let all_loaded = run(console, &job)?;
     read?;
     Ok(all_loaded)
 }

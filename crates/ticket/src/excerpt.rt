@@ -1,10 +1,10 @@
 //! A place in a template, as its author finds it.
 
-ghost use Rattle.std.specs.Prelude.{◌≡◌, ◌+◌, ◌++◌, OnOk, map, count_by};
+ghost use Rattle.std.specs.Prelude.{◌≡◌, ◌+◌, ◌++◌, OnOk, length, map, count_by};
 ghost use Rattle.std.specs.List.{flat_map, before_first, after_last};
-ghost use Rattle.ticket.specs.Excerpt.{is_end, line_of, before_of, behind_of, plain, blank, excerpt};
+ghost use Rattle.ticket.specs.Excerpt.{is_end, line_of, before_of, behind_of, spot_words, plain, blank, excerpt};
 
-use std::alloc::AllocError;
+use std::alloc::{AllocError, Global};
 
 // The line of a place: its number from 1, its bytes before the place, and those from there on.
 #[derive(Clone, Copy)]
@@ -59,6 +59,21 @@ fn last_line(text: &[u8]) -> &[u8]
         from -= 1;
     }
     &text[from..]
+}
+
+// Writes a place, its line and its column.
+pub(crate) fn push_place(
+    heap: Global,
+    out: &mut Vec<u8>,
+    place: usize,
+    spot: Spot<'_>,
+) -> Result<(), AllocError>
+    ensures { OnOk result (out.new.items ≡ out.old.items ++ spot_words place spot.entry.line (length spot.entry.before.now)) }
+{
+    let line = spot.line;
+    let column = spot.before.len() + 1;
+    let words = format!(in heap; " place={place} line={line} column={column}")?;
+    out.extend_from_slice(words.as_bytes())
 }
 
 // Writes the line of a place, and a caret under the place.

@@ -12,6 +12,12 @@ pub(crate) enum Fault {
     NoFilter,
     #[error("a template name is wanted here")]
     NoTemplate,
+    #[error("a name is wanted here")]
+    NoName,
+    #[error("null, a boolean, a whole number or a text is wanted here")]
+    NoDatum,
+    #[error("a whole number from 0 on is wanted here")]
+    NoCount,
     #[error("a text in quotes or @ and a file name is wanted here")]
     NoTemplateText,
     #[error("a file name is wanted here")]

@@ -2,6 +2,7 @@
 
 ghost use Rattle.ticket.specs.Bounds.{FitsAnswer};
 
+use crate::console::Console;
 use crate::job::{Filtering, TrayParts};
 use crate::json::document::{Json, Kind};
 use crate::quote::push_quoted;
@@ -14,20 +15,19 @@ use banks::phrases::Phrases;
 use banks::sums::Sums;
 use std::alloc::{AllocError, Global};
 use std::io;
-use std::io::Write;
 use tray::records::OpenError;
 
 // Applies the filter, with the phrases of a tray, and prints its answer.
 pub(crate) fn apply(
-    rt: &HostRuntime,
+    console: Console<'_>,
     phrases: TrayParts<'_>,
     filtering: &Filtering,
 ) -> io::Result<()> {
-    let Ok(mut bank) = bank_of(rt.alloc(), phrases) else {
-        return println!(rt; "filter failed: no memory");
+    let Ok(mut bank) = bank_of(console.heap(), phrases) else {
+        return console.say(b"filter failed: no memory\n");
     };
-    let line = answer_line(rt.alloc(), &mut bank, filtering)?;
-    rt.stdout().write_all(line.as_slice())
+    let line = answer_line(console.heap(), &mut bank, filtering)?;
+    console.say(line.as_slice())
 }
 
 // The two banks, with the phrases of a tray.

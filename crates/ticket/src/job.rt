@@ -7,8 +7,10 @@ use crate::cursor::Cursor;
 use crate::faults::{Fault, JobError, Place};
 use crate::json;
 use crate::json::document::{Json, Part};
+use crate::json::plain::Plain;
 use crate::layout::{LayoutError, Unsaid, lay_out};
 use crate::spelling::spell_all;
+use numerals::read_whole;
 use std::alloc::{AllocError, Global};
 use std::fs;
 use tray::records::OpenError;
@@ -57,6 +59,16 @@ pub(crate) enum Action {
     Filter(Filtering),
     // `template NAME JSON-TEXT` or `template NAME @FILE`
     Template(Template),
+    // `put NAME JSON`
+    Put(Put),
+    // `buffer N`
+    Buffer(usize),
+    // `render NAME`
+    Render(Vec<u8>),
+    // `drawers`
+    Drawers,
+    // `bench N NAME`
+    Bench(Bench),
 }
 
 // A filter by name, its input and perhaps its argument.
@@ -72,6 +84,20 @@ pub(crate) struct Filtering {
 pub(crate) struct Template {
     pub(crate) name: Vec<u8>,
     pub(crate) part: Part,
+}
+
+// A value that a name gets.
+#[derive(Drop)]
+pub(crate) struct Put {
+    pub(crate) name: Vec<u8>,
+    pub(crate) value: Plain,
+}
+
+// How often a template is rendered.
+#[derive(Drop)]
+pub(crate) struct Bench {
+    pub(crate) times: usize,
+    pub(crate) name: Vec<u8>,
 }
 
 // The actions of a job, and the source: the templates of all of them, one behind the other.
@@ -134,6 +160,14 @@ fn read_line(
         b"phrases" => read_object(rt.alloc(), cursor, Action::Phrases)?,
         b"filter" => read_filter(rt.alloc(), cursor)?,
         b"template" => Action::Template(read_template(rt, cursor, source)?),
+        b"put" => Action::Put(read_put(rt.alloc(), cursor)?),
+        b"buffer" => Action::Buffer(read_buffer(cursor)?),
+        b"render" => Action::Render(read_last(rt.alloc(), cursor)?),
+        b"drawers" => {
+            cursor.end()?;
+            Action::Drawers
+        }
+        b"bench" => Action::Bench(read_bench(rt.alloc(), cursor)?),
         _ => return Err(at.bad(Fault::UnknownWord)),
     };
     Ok(Some(action))
@@ -200,6 +234,45 @@ fn read_template(
     let part = read_part(rt, &mut cursor, source)?;
     cursor.end()?;
     Ok(Template { name, part })
+}
+
+fn read_put(heap: Global, mut cursor: Cursor<'_>) -> Result<Put, JobError> {
+    let (_, word) = next_word(&mut cursor, Fault::NoName)?;
+    let name = Vec::from_slice(heap, word)?;
+    cursor.skip_blanks();
+    let at = cursor.at();
+    let json = json::read_value(heap, &mut cursor)?;
+    let value = json.into_plain().ok_or(at.bad(Fault::NoDatum))?;
+    cursor.end()?;
+    Ok(Put { name, value })
+}
+
+fn read_buffer(mut cursor: Cursor<'_>) -> Result<usize, JobError> {
+    let len = read_count(&mut cursor)?;
+    cursor.end()?;
+    Ok(len)
+}
+
+fn read_bench(heap: Global, mut cursor: Cursor<'_>) -> Result<Bench, JobError> {
+    let times = read_count(&mut cursor)?;
+    let name = read_last(heap, cursor)?;
+    Ok(Bench { times, name })
+}
+
+// The template name ahead, with nothing behind it.
+fn read_last(heap: Global, mut cursor: Cursor<'_>) -> Result<Vec<u8>, JobError> {
+    let (_, word) = next_word(&mut cursor, Fault::NoTemplate)?;
+    let name = Vec::from_slice(heap, word)?;
+    cursor.end()?;
+    Ok(name)
+}
+
+// The number ahead, from 0 on.
+fn read_count(cursor: &mut Cursor<'_>) -> Result<usize, JobError> {
+    let (at, word) = next_word(cursor, Fault::NoCount)?;
+    read_whole(word)
+        .and_then(|n| usize::try_from(n).ok())
+        .ok_or(at.bad(Fault::NoCount))
 }
 
 // The text ahead, or that of the file ahead; it joins the source.

@@ -7,6 +7,7 @@ use crate::json::document::{Json, Tree, Want};
 use std::alloc::Global;
 
 pub(crate) mod document;
+pub(crate) mod plain;
 pub(crate) mod tokens;
 
 // The object ahead, with nothing but blanks around it.

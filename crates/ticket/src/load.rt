@@ -1,11 +1,12 @@
 //! Templates loaded into the sheet of a job.
 
-ghost use Rattle.std.specs.Prelude.{◌≡◌, ◌-◌, ◌++◌, IfOk, OnOk, length};
+ghost use Rattle.std.specs.Prelude.{◌≡◌, ◌-◌, ◌++◌, IfOk, OnOk};
 ghost use Rattle.sheet.specs.Sheets.{lists, Loads};
-ghost use Rattle.ticket.specs.Load.{load_lines, answer_words, loaded_words, refused_words, refusal_words};
+ghost use Rattle.ticket.specs.Load.{load_lines, answer_words, loaded_words, refused_words};
 ghost use Rattle.ticket.specs.Loaded.{known, number};
 
-use crate::excerpt::{Spot, push_excerpt, push_plain, spot_at};
+use crate::console::Console;
+use crate::excerpt::{push_excerpt, push_place, push_plain, spot_at};
 use crate::filter::bank_of;
 use crate::job::{Template, TrayParts};
 use crate::json::document::Part;
@@ -13,7 +14,6 @@ use arguments::refusals::{Refusal, Stop};
 use sheet::sheet::Sheet;
 use std::alloc::{AllocError, Global};
 use std::io;
-use std::io::Write;
 use tray::parts::cut;
 
 // The number of a template in its sheet, and of its nodes.
@@ -25,15 +25,15 @@ struct Loaded {
 
 // Loads a template, prints its numbers or why it is refused, and tells whether it was loaded.
 pub(crate) fn load(
-    rt: &HostRuntime,
+    console: Console<'_>,
     sheet: &mut Sheet<'_>,
     phrases: TrayParts<'_>,
     source: &[u8],
     template: &Template,
 ) -> io::Result<bool> {
-    let answer = answer(rt.alloc(), sheet, phrases, template.part);
-    let lines = answer_lines(rt.alloc(), source, template, answer)?;
-    rt.stdout().write_all(lines.as_slice())?;
+    let answer = answer(console.heap(), sheet, phrases, template.part);
+    let lines = answer_lines(console.heap(), source, template, answer)?;
+    console.say(lines.as_slice())?;
     Ok(answer.is_ok())
 }
 
@@ -106,25 +106,12 @@ fn push_refused(
     ensures { OnOk result (lines.new.items ≡ lines.old.items ++ refused_words refusal place text.now) }
 {
     let spot = spot_at(text, place);
-    push_refusal(heap, lines, refusal, place, spot)?;
-    push_excerpt(lines, spot)
-}
-
-fn push_refusal(
-    heap: Global,
-    lines: &mut Vec<u8>,
-    refusal: Refusal,
-    place: usize,
-    spot: Spot<'_>,
-) -> Result<(), AllocError>
-    ensures { OnOk result (lines.new.items ≡ lines.old.items ++ refusal_words refusal place spot.entry.line (length spot.entry.before.now)) }
-{
     let number = refusal.number();
-    let line = spot.line;
-    let column = spot.before.len() + 1;
+    let refused = format!(in heap; " refused {number}")?;
+    lines.extend_from_slice(refused.as_bytes())?;
+    push_place(heap, lines, place, spot)?;
     let words = refusal.words();
-    let said = format!(in heap;
-        " refused {number} place={place} line={line} column={column}: {words}\n"
-    )?;
-    lines.extend_from_slice(said.as_bytes())
+    let said = format!(in heap; ": {words}\n")?;
+    lines.extend_from_slice(said.as_bytes())?;
+    push_excerpt(lines, spot)
 }

@@ -6,27 +6,27 @@ ghost use Rattle.ticket.specs.Show.{kind_word, shown_name, name_line, entry_line
 ghost use Rattle.values.specs.Meaning.{value_of};
 ghost use Rattle.values.specs.Value.{written};
 
+use crate::console::Console;
 use crate::quote::push_quoted;
 use std::alloc::{AllocError, Global};
 use std::io;
-use std::io::Write;
 use texts::measure::text_len;
 use texts::write::write_text;
 use tray::records::Record;
 use tray::trays::Tray;
 
 // Prints a line for each host name.
-pub(crate) fn show(rt: &HostRuntime, tray: &Tray) -> io::Result<()> {
+pub(crate) fn show(console: Console<'_>, tray: &Tray) -> io::Result<()> {
     let Record::Object(names) = tray.record(0) else {
         return Ok(());
     };
     if names.count == 0 {
-        return println!(rt; "show nothing: the tray has no names");
+        return console.say(b"show nothing: the tray has no names\n");
     }
     for j in 0..names.count {
         let key = names.key(j);
-        let line = entry_line(rt.alloc(), tray, key, key + 1)?;
-        rt.stdout().write_all(line.as_slice())?;
+        let line = entry_line(console.heap(), tray, key, key + 1)?;
+        console.say(line.as_slice())?;
     }
     Ok(())
 }

@@ -21,11 +21,12 @@ loop-i-preserved g c =
     let below : i < length xs = omega (arith, c.loop-i-test.true, c.loop-i.auto.calls) in
     let at : x ≡ get_or xs i x = c.index-calls-i.is in
     let one : drop i all ≡ call_of x ∷ drop (i + 1) all = subst (λ l. drop i l ≡ call_of x ∷ drop (i + 1) l) same (dropped_at call_of xs i x below at) in
-    let made = subst (λ k. perform s k (call_of x) (shows c.loop-i.drawers) ≡ (result_of y, shows c.make.new.drawers)) means (subst (λ z. perform s (g.B.Bank.meaning c.loop-i.bank) (call_of z) (shows c.loop-i.drawers) ≡ (result_of y, shows c.make.new.drawers)) (sym at) c.make.ensures.done) in
-    (subst (Ran s m all (shows c.args.drawers.now) (shows c.make.new.drawers) (i + 1)) (sym (taken_at result_of xs i y below))
-    (ran_more s m all (shows c.args.drawers.now) (shows c.loop-i.drawers) (shows c.make.new.drawers) i (map result_of (take i xs)) (call_of x) (result_of y) ran one made),
-    same_set call_of xs i x y at (c.make.ensures.call ∙ ap call_of (sym at)) ∙ same,
-    c.make.ensures.same ∙ means)
+    let made = subst (λ k. perform s k (call_of x) (shows c.loop-i.drawers) ≡ (result_of y, shows c.make.new.drawers)) means (subst (λ z. perform s (g.B.Bank.meaning c.loop-i.bank) (call_of z) (shows c.loop-i.drawers) ≡ (result_of y, shows c.make.new.drawers)) (sym at) c.make.ensures.done) in (
+      subst (Ran s m all (shows c.args.drawers.now) (shows c.make.new.drawers) (i + 1)) (sym (taken_at result_of xs i y below))
+          (ran_more s m all (shows c.args.drawers.now) (shows c.loop-i.drawers) (shows c.make.new.drawers) i (map result_of (take i xs)) (call_of x) (result_of y) ran one made),
+      same_set call_of xs i x y at (c.make.ensures.call ∙ ap call_of (sym at)) ∙ same,
+      c.make.ensures.same ∙ means,
+    )
 
 pub returns-clause-done : goal.returns-clause-done
 returns-clause-done g c =

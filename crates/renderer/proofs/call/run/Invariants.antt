@@ -1,4 +1,4 @@
-use Rattle.std.proofs.Common.{◌≡◌, length, map, take}
+use Rattle.std.proofs.Common.{◌≡◌, map, take}
 use Rattle.drawers.specs.Shown.{shows}
 use Rattle.renderer.specs.Calls.{sheet_of}
 use Rattle.renderer.specs.Call.{call_of, result_of}

@@ -1,5 +1,4 @@
 use Rattle.std.proofs.Common.{rules, cond, ap, sym, ◌∙◌, ◌≡◌, false}
-use Rattle.renderer.proofs.Paging.{page_done}
 use Rattle.std.proofs.lemmas.Iterator.{YieldsList-from_slice}
 use Rattle.std.proofs.lemmas.Iterator.Adapters.{position_from-zero}
 use Rattle.std.proofs.lemmas.Iterator.Search.{position_from_yields_List}

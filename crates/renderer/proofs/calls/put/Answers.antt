@@ -1,14 +1,11 @@
-use Rattle.std.proofs.Common.{◌≡◌, ◌<◌, ap, sym, subst, ◌∙◌, Some, Err, vec_items, length, arith}
-use Rattle.renderer.proofs.Paging.{template_there}
+use Rattle.std.proofs.Common.{◌≡◌, ◌<◌, ap, sym, subst, ◌∙◌, Some, Err, arith}
 use Rattle.std.proofs.lemmas.List.{length-map}
 use Rattle.std.proofs.lemmas.Result.{err_from_is_err_and}
 use Rattle.std.specs.Option.{option_map}
 use Rattle.drawers.specs.Shown.{held_of, shows}
-use Rattle.held.specs.Records.{held_in}
 use Rattle.meaning.specs.Calls.{held_datum}
 use Rattle.meaning.specs.Things.{Held, name, altered, with_variable}
 use Rattle.nodes.specs.Books.{names_in, spelled}
-use Rattle.sheet.specs.Sheets.{lists}
 use Rattle.renderer.specs.Calls.{datum_of, named, PutDone}
 use Rattle.renderer.specs.declared.calls.Refused.TheVariants.{NotPut}
 use Rattle.renderer.proofs.Putting.{no_name, too_long, is_put, named_below, ok_or_err, ok_or_why, ok_or_ok, kept_not, kept_so, short_is}

@@ -1,6 +1,5 @@
-use Rattle.std.proofs.Common.{◌≡◌, ap, ap₂, length, sym, subst, ◌∙◌, Some, None, Ok, Err, arith}
+use Rattle.std.proofs.Common.{◌≡◌, ap, ap₂, length, sym, subst, ◌∙◌, Err, arith}
 use Rattle.std.proofs.lemmas.Result.{err_from_is_err_and}
-use Rattle.banks.specs.Meaning.{Meaning}
 use Rattle.drawers.specs.Shown.{shows}
 use Rattle.held.specs.Scenes.{host_of}
 use Rattle.meaning.proofs.Reorder.{order_free}

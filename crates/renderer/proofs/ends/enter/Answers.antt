@@ -1,4 +1,4 @@
-use Rattle.std.proofs.Common.{◌≡◌, ap, sym, subst, length, take, w64, to_z, of_z, rules}
+use Rattle.std.proofs.Common.{◌≡◌, sym, subst, length, take, w64, to_z, of_z, rules}
 use Rattle.frames.specs.Views.{manner_of}
 use Rattle.meaning.specs.Blocks.{enters}
 use Rattle.meaning.specs.Frames.{cells}

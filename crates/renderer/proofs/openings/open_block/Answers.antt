@@ -1,4 +1,4 @@
-use Rattle.std.proofs.Common.{subst, sym, Ok}
+use Rattle.std.proofs.Common.{subst, sym}
 use Rattle.drawers.specs.Shown.{shows}
 use Rattle.renderer.specs.Openings.{BlockOpened}
 use Rattle.renderer.proofs.Opening.{block_bare, block_for, block_table}

@@ -1,4 +1,4 @@
-use Rattle.std.proofs.Common.{rules, w64, SFits, subst, ap₂, ◌∙◌, ap, ◌<◌}
+use Rattle.std.proofs.Common.{rules, w64, SFits, subst, ap₂, ◌∙◌, ◌<◌}
 use Rattle.std.proofs.lemmas.Int.{to_z-of_z}
 use Rattle.rows.specs.Counted.{between, how_many}
 use Rattle.renderer.proofs.Opening.{range_some, range_none}

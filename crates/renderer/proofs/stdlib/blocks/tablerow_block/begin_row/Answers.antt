@@ -1,4 +1,4 @@
-use Rattle.std.proofs.Common.{◌≡◌, ◌+◌, sym, ap, ◌∙◌, subst, rules}
+use Rattle.std.proofs.Common.{◌≡◌, ◌+◌, sym, ◌∙◌, subst, rules}
 use Rattle.meaning.specs.Blocks.{row_mark}
 use Rattle.meaning.specs.Frames.{is_col_first, row_number}
 use Rattle.pages.specs.Pieces.{Emits}
