@@ -171,18 +171,16 @@ fn read_given(heap: Global, form: &str) -> Result<Option<Given>, Fault> {
 }
 
 fn read_asked(text: &str) -> Option<Asked> {
-    let (number, mut rest) = first_word(text);
+    let mut words = text.split(' ');
     let mut asked = Asked {
-        number: number.parse().ok()?,
+        number: words.next()?.parse().ok()?,
         other: false,
         phrases: true,
         buffer: 4096,
         trail: 16,
     };
-    while !rest.is_empty() {
-        let (word, behind) = first_word(rest);
+    for word in words {
         asked = asked.with(word)?;
-        rest = behind;
     }
     Some(asked)
 }

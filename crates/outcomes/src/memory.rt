@@ -1,5 +1,8 @@
 //! What a rendering leaves in its memory.
 
+ghost use Rattle.std.specs.Prelude.{◌≡◌, length};
+ghost use Rattle.meaning.specs.Calls.{filled as with_zeros};
+
 use crate::answers::Answer;
 use frames::frame::TrailRecord;
 use renderer::calls::{Faulted, Refused};
@@ -67,7 +70,9 @@ fn is_marked(record: &TrailRecord) -> bool {
     )
 }
 
-fn without_zeros(buffer: &[u8]) -> &[u8] {
+fn without_zeros(buffer: &[u8]) -> &[u8]
+    ensures { with_zeros (length buffer.now) result.now ≡ buffer.now }
+{
     let mut end = buffer.len();
     while end > 0 && buffer[end - 1] == 0 {
         end -= 1;

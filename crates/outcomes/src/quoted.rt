@@ -6,35 +6,28 @@ use std::alloc::{AllocError, Global};
 // Nothing where a part is of another form.
 pub(crate) fn read_text(heap: Global, form: &str) -> Result<Option<Vec<u8>>, AllocError> {
     let mut text = Vec::new(heap);
-    let mut rest = form.trim_start();
-    while !rest.is_empty() {
-        match push_part(&mut text, rest)? {
-            Some(behind) => rest = behind.trim_start(),
-            None => return Ok(None),
+    let mut quoted = "";
+    let mut inside = false;
+    for piece in form.split('`') {
+        if inside {
+            quoted = piece;
+        } else if !push_behind(&mut text, quoted, piece)? {
+            return Ok(None);
         }
+        inside = !inside;
     }
-    Ok(Some(text))
+    Ok(inside.then_some(text))
 }
 
-// One part, and what stands behind it.
-fn push_part<'a>(text: &mut Vec<u8>, form: &'a str) -> Result<Option<&'a str>, AllocError> {
-    match form.strip_prefix('`') {
-        Some(opened) => push_copies(text, opened),
-        None => push_byte(text, form),
-    }
-}
-
-fn push_copies<'a>(text: &mut Vec<u8>, opened: &'a str) -> Result<Option<&'a str>, AllocError> {
-    let Some((part, behind)) = opened.split_once('`') else {
-        return Ok(None);
-    };
+// A text in quotes, with what stands behind it: the number of its copies, and bytes. False where it is of another form.
+fn push_behind(text: &mut Vec<u8>, quoted: &str, behind: &str) -> Result<bool, AllocError> {
     let Some((copies, rest)) = copies(behind) else {
-        return Ok(None);
+        return Ok(false);
     };
     for _ in 0..copies {
-        text.extend_from_slice(part.as_bytes())?;
+        text.extend_from_slice(quoted.as_bytes())?;
     }
-    Ok(Some(rest))
+    push_bytes(text, rest)
 }
 
 // How many copies, and what stands behind that.
@@ -48,13 +41,17 @@ fn copies(behind: &str) -> Option<(usize, &str)> {
     }
 }
 
-fn push_byte<'a>(text: &mut Vec<u8>, form: &'a str) -> Result<Option<&'a str>, AllocError> {
-    let (digits, rest) = first_word(form);
-    let Ok(byte) = digits.parse() else {
-        return Ok(None);
-    };
-    text.push(byte)?;
-    Ok(Some(rest))
+// Bytes by their numbers.
+fn push_bytes(text: &mut Vec<u8>, numbers: &str) -> Result<bool, AllocError> {
+    for word in numbers.split(' ') {
+        if !word.is_empty() {
+            let Ok(byte) = word.parse() else {
+                return Ok(false);
+            };
+            text.push(byte)?;
+        }
+    }
+    Ok(true)
 }
 
 // The bytes up to the first blank, and those behind it.
