@@ -133,14 +133,13 @@ impl<'a> Case<'a> {
 
 fn read_act<'a>(heap: Global, text: &'a str) -> Result<Option<Act<'a>>, Fault> {
     let (word, rest) = first_word(text);
-    match word {
-        "put" => {
-            let (name, form) = first_word(rest);
-            let given = read_given(heap, form)?;
-            Ok(given.map(|given| Act::Put(name, given)))
-        }
-        "render" => Ok(read_asked(rest).map(Act::Render)),
-        _ => Ok(short_act(word, rest)),
+    if word != "put" {
+        return Ok(short_act(word, rest));
+    }
+    let (name, form) = first_word(rest);
+    match read_given(heap, form)? {
+        Some(given) => Ok(Some(Act::Put(name, given))),
+        None => Ok(None),
     }
 }
 
@@ -150,6 +149,7 @@ fn short_act<'a>(word: &str, rest: &'a str) -> Option<Act<'a>> {
             let (name, number) = first_word(rest);
             Some(Act::Count(name, number.parse().ok()?))
         }
+        "render" => Some(Act::Render(read_asked(rest)?)),
         "variable" => Some(Act::Variable(rest)),
         "counter" => Some(Act::Counter(rest)),
         "position" => Some(Act::Position(rest.parse().ok()?)),

@@ -6,11 +6,11 @@ use std::alloc::{AllocError, Global};
 // Nothing where a part is of another form.
 pub(crate) fn read_text(heap: Global, form: &str) -> Result<Option<Vec<u8>>, AllocError> {
     let mut text = Vec::new(heap);
-    let mut quoted = "";
+    let mut quoted: &[u8] = b"";
     let mut inside = false;
     for piece in form.split('`') {
         if inside {
-            quoted = piece;
+            quoted = piece.as_bytes();
         } else if !push_behind(&mut text, quoted, piece)? {
             return Ok(None);
         }
@@ -20,12 +20,12 @@ pub(crate) fn read_text(heap: Global, form: &str) -> Result<Option<Vec<u8>>, All
 }
 
 // A text in quotes, with what stands behind it: the number of its copies, and bytes. False where it is of another form.
-fn push_behind(text: &mut Vec<u8>, quoted: &str, behind: &str) -> Result<bool, AllocError> {
+fn push_behind(text: &mut Vec<u8>, quoted: &[u8], behind: &str) -> Result<bool, AllocError> {
     let Some((copies, rest)) = copies(behind) else {
         return Ok(false);
     };
     for _ in 0..copies {
-        text.extend_from_slice(quoted.as_bytes())?;
+        text.extend_from_slice(quoted)?;
     }
     push_bytes(text, rest)
 }
