@@ -12,6 +12,7 @@ pub mod Equals
 pub mod Finished
 pub mod Leaving
 pub mod Listing
+pub mod Memory
 pub mod Opening
 pub mod Paging
 pub mod Passing

@@ -5,7 +5,7 @@ ghost use Rattle.banks.specs.Meaning.{Meaning};
 ghost use Rattle.meaning.specs.Calls.{perform, run as run_of};
 ghost use Rattle.meaning.specs.Order.{OrderFree};
 ghost use Rattle.renderer.specs.Calls.{sheet_of};
-ghost use Rattle.renderer.specs.Call.{putting_call, putting_result, page_call, page_answer, call_of, result_of};
+ghost use Rattle.renderer.specs.Call.{putting_call, putting_result, page_call, page_answer, call_of, result_of, LeavesPage, Leaves, EachLeaves};
 
 use crate::calls::{Datum, Faulted, Refused, put, render};
 use banks::bank::Bank;
@@ -52,6 +52,7 @@ impl<'a> Page<'a> {
     fn make<B: Bank>(&mut self, sheet: &Sheet, drawers: &mut Drawers, bank: &mut B)
         ensures done { perform (sheet_of sheet.now) (B.Bank.meaning bank.old) (page_call self.old) (shows drawers.old) ≡ (page_answer self.new, shows drawers.new) }
         ensures call { page_call self.new ≡ page_call self.old }
+        ensures left { LeavesPage self.old self.new }
         ensures same { B.Bank.meaning bank.new ≡ B.Bank.meaning bank.old }
     {
         self.answer = render(
@@ -71,6 +72,7 @@ impl<'a> Call<'a> {
     fn make<B: Bank>(&mut self, sheet: &Sheet, drawers: &mut Drawers, bank: &mut B)
         ensures done { perform (sheet_of sheet.now) (B.Bank.meaning bank.old) (call_of self.old) (shows drawers.old) ≡ (result_of self.new, shows drawers.new) }
         ensures call { call_of self.new ≡ call_of self.old }
+        ensures left { Leaves self.old self.new }
         ensures same { B.Bank.meaning bank.new ≡ B.Bank.meaning bank.old }
     {
         match self {
@@ -84,6 +86,7 @@ impl<'a> Call<'a> {
 pub fn run<B: Bank>(sheet: &Sheet, drawers: &mut Drawers, bank: &mut B, calls: &mut [Call<'_>])
     ensures done { run_of (sheet_of sheet.now) (B.Bank.meaning bank.old) (map call_of calls.old) (shows drawers.old) ≡ (map result_of calls.new, shows drawers.new) }
     ensures calls { map call_of calls.new ≡ map call_of calls.old }
+    ensures left { EachLeaves calls.old calls.new }
     ensures same { B.Bank.meaning bank.new ≡ B.Bank.meaning bank.old }
     ensures order { OrderFree }
 {
