@@ -1,77 +1,113 @@
--- What the library's `from_utf8` and `parse` give is the number that the text spells.
-use Rattle.std.proofs.Common.{◌≡◌, ℕ, ◌^◌, ◌<◌, ◌≤◌, Bool, true, false, cond, eqb, List, [], ◌∷◌, length, ℤ, pos, neg_ℤ, Some, None, Ok, Err, Option, Result, Bor, sym, refl, ap, ◌∙◌, arith, w64}
-use Rattle.std.specs.Option.{option_map}
-use Rattle.std.specs.Result.{OkIff, MatchResult, result_ok}
-use Rattle.std.specs.Str.{IsAscii, IsUtf8}
-use Rattle.std.specs.Str.Parse.{ParsesSigned}
-use Rattle.std.proofs.lemmas.Bool.{cond-true, eqb-true, eqb-false}
-use Rattle.std.proofs.lemmas.Fmt.{IsAscii-from_digits}
+-- Reading digits by a loop: what is left gives the answer. Then the sign.
+use lib.Signed.{lt_z}
+use Rattle.std.proofs.Common.{◌≡◌, ℕ, zero, suc, ◌+◌, ◌-◌, ◌*◌, ◌^◌, ◌<◌, ◌≤◌, Bool, true, false, cond, ◌&&◌, eqb, leb, ◌⊎◌, List, [], ◌∷◌, length, get_or, take, drop, ℤ, pos, negsuc, neg_ℤ, ◌+ℤ◌, ◌-ℤ◌, FitsSigned, Some, None, Option, sym, refl, ap, ◌∙◌, inl, inr, arith, w64}
+use Rattle.std.specs.Option.{option_map, SomeIff}
 use Rattle.std.proofs.lemmas.Int.{ints}
-use Rattle.std.proofs.lemmas.Str.{IsUtf8-from_ascii}
-use Rattle.std.proofs.lemmas.Str.Ascii.{IsAscii-cons}
-use Rattle.std.proofs.lemmas.Str.Parse.{parse_signed_minus, parse_signed_plus, parse_signed_plain}
-use Rattle.numerals.specs.Decimal.{are_digits, value_of, natural_of, fits, if_fits, whole_of}
-use Rattle.numerals.specs.Laws.{Digits, Spells, plain, plus, minus}
-use Rattle.numerals.proofs.Lawful.{own, fits_from, fits_to, natural_from, natural_to, reads_what_is_spelled}
+use Rattle.std.proofs.lemmas.List.{take_all, drop_all, drop_more}
+use Rattle.std.proofs.lemmas.Bool.{le-leb, lt-leb, le-ltb, and_from, and_left, and_right, cond-true, cond-false, eq-eqb, ne_eqb}
+use Rattle.numerals.specs.Decimal.{is_digit, are_digits, value_after, natural_of, fits, if_fits, whole_of}
+use Rattle.numerals.specs.Bounds.{at_most}
+use Rattle.numerals.proofs.Bounded.{at_most_lem}
+use Rattle.numerals.proofs.Lawful.{fits_from, fits_to}
 
--- digits that a reader takes just where their number, with its sign, fits
-module _ {E : Type 0} (sign : ℕ → ℤ) (limit : ℕ → Type 0) (within : (n : ℕ) → limit n → fits (sign n) ≡ true) (beyond : (n : ℕ) → fits (sign n) ≡ true → limit n) where
-  digits_read : (r : Result ℤ E) (ds : List ℕ) → OkIff r ((are_digits ds ≡ true) × (0 < length ds) × limit (value_of ds)) (sign (value_of ds)) → result_ok r ≡ if_fits (option_map sign (natural_of ds))
-  digits_read (Ok x) ds h =
-      ap Some h.1 ∙ sym (ap (λ o. if_fits (option_map sign o)) (natural_from ds (record { some = h.0.1; all = h.0.0 })) ∙ cond-true (fits (sign (value_of ds))) _ _ (within (value_of ds) h.0.2))
-  digits_read (Err e) ds h = go (natural_of ds) refl
-    where
-      go : (o : Option ℕ) → natural_of ds ≡ o → None ≡ if_fits (option_map sign o)
-      go None q = refl
-      go (Some n) q = let d = natural_to ds n q in tested n d.0 d.1 (fits (sign n)) refl
-        where
-          tested : (n : ℕ) → Digits ds → n ≡ value_of ds → (b : Bool) → fits (sign n) ≡ b → None ≡ cond b (Some (sign n)) None
-          tested n d e true f = absurd (h (d.all, d.some, beyond (value_of ds) (ap (λ k. fits (sign k)) (sym e) ∙ f)))
-          tested n d e false f = refl
+-- what digits come to after others of the value n
+abbrev read_on : ℕ → List ℕ → Option ℕ
+read_on n ds = cond (are_digits ds) (Some (value_after n ds)) None
 
--- the limits of the two signs
-pos_within : (n : ℕ) → n < 2 ^ 63 → fits (pos n) ≡ true
-pos_within n h = fits_from (pos n) (record { least = omega (arith, ints); most = omega (arith, ints) })
+-- the bytes before i were digits of the value n
+pub record Reading (text : List ℕ) (i n : ℕ) : Type 0 where
+  pub small : n ≤ 2 ^ 63
+  pub is : at_most (2 ^ 63) (natural_of text) ≡ at_most (2 ^ 63) (read_on n (drop i text))
 
-pos_beyond : (n : ℕ) → fits (pos n) ≡ true → n < 2 ^ 63
-pos_beyond n h = let f = fits_to (pos n) h in omega (arith, ints, f.most)
+natural_some : (c : ℕ) (cs ds : List ℕ) → ds ≡ c ∷ cs → natural_of ds ≡ read_on 0 ds
+natural_some c cs ds e = ap natural_of e ∙ sym (ap (read_on 0) e)
 
-neg_within : (n : ℕ) → n ≤ 2 ^ 63 → fits (neg_ℤ (pos n)) ≡ true
-neg_within n h = fits_from (neg_ℤ (pos n)) (record { least = omega (arith, ints); most = omega (arith, ints) })
+pub reading_none : (text : List ℕ) → 0 < length text → Reading text 0 0
+reading_none text l =
+    record { small = omega arith; is = ap (at_most (2 ^ 63)) (natural_some (get_or text 0 0) (drop 1 text) text (drop_more text 0 0 l)) }
 
-neg_beyond : (n : ℕ) → fits (neg_ℤ (pos n)) ≡ true → n ≤ 2 ^ 63
-neg_beyond n h = let f = fits_to (neg_ℤ (pos n)) h in omega (arith, ints, f.least)
+pub reading_all : {text : List ℕ} {i n : ℕ} → Reading text i n → length text ≤ i → Some n ≡ at_most (2 ^ 63) (natural_of text)
+reading_all {text} {i} {n} r l =
+    sym (r.is ∙ ap (λ ds. at_most (2 ^ 63) (read_on n ds)) (drop_all i text l) ∙ ap (λ b. cond b (Some n) None) (le-leb n (2 ^ 63) r.small))
 
-pub parsed : {E : Type 0} (t : List ℕ) (r : Result ℤ E) → ParsesSigned w64 10 t r → result_ok r ≡ whole_of t
+value_after_ge : (n : ℕ) (ds : List ℕ) → n ≤ value_after n ds
+value_after_ge n [] = omega arith
+value_after_ge n (c ∷ cs) = omega (arith, value_after_ge (n * 10 + (c - 48)) cs)
+
+read_digit : (n c : ℕ) (cs : List ℕ) → 48 ≤ c → c ≤ 57 → read_on n (c ∷ cs) ≡ read_on (n * 10 + (c - 48)) cs
+read_digit n c cs l h =
+    ap (λ b. cond (b && are_digits cs) (Some (value_after (n * 10 + (c - 48)) cs)) None) (and_from (leb 48 c) (leb c 57) (le-leb 48 c l) (le-leb c 57 h))
+
+no_digit : (c : ℕ) → (c < 48) ⊎ (57 < c) → is_digit c ≡ false
+no_digit c (inl h) = and_left (leb 48 c) (leb c 57) (lt-leb 48 c h)
+no_digit c (inr h) = and_right (leb 48 c) (leb c 57) (lt-leb c 57 h)
+
+beyond : (b : Bool) (n : ℕ) → 2 ^ 63 < n → at_most (2 ^ 63) (cond b (Some n) None) ≡ None
+beyond true n h = ap (λ t. cond t (Some n) None) (lt-leb n (2 ^ 63) h)
+beyond false n h = refl
+
+-- the next byte
+module _ {text : List ℕ} {i n : ℕ} (r : Reading text i n) (l : i < length text) where
+  at : at_most (2 ^ 63) (natural_of text) ≡ at_most (2 ^ 63) (read_on n (get_or text i 0 ∷ drop (i + 1) text))
+  at = r.is ∙ ap (λ ds. at_most (2 ^ 63) (read_on n ds)) (drop_more text i 0 l)
+
+  pub reading_more : 48 ≤ get_or text i 0 → get_or text i 0 ≤ 57 → n * 10 + (get_or text i 0 - 48) ≤ 2 ^ 63 → Reading text (i + 1) (n * 10 + (get_or text i 0 - 48))
+  reading_more p q s = record { small = s; is = at ∙ ap (at_most (2 ^ 63)) (read_digit n (get_or text i 0) (drop (i + 1) text) p q) }
+
+  pub reading_other : (get_or text i 0 < 48) ⊎ (57 < get_or text i 0) → None ≡ at_most (2 ^ 63) (natural_of text)
+  reading_other d =
+      sym (at ∙ ap (λ b. at_most (2 ^ 63) (cond (b && are_digits (drop (i + 1) text)) (Some (value_after (n * 10 + (get_or text i 0 - 48)) (drop (i + 1) text))) None)) (no_digit (get_or text i 0) d))
+
+  pub reading_beyond : 48 ≤ get_or text i 0 → get_or text i 0 ≤ 57 → 2 ^ 63 < n * 10 + (get_or text i 0 - 48) → None ≡ at_most (2 ^ 63) (natural_of text)
+  reading_beyond p q s =
+      let cs = drop (i + 1) text in
+      let m = n * 10 + (get_or text i 0 - 48) in
+      sym (at ∙ ap (at_most (2 ^ 63)) (read_digit n (get_or text i 0) cs p q) ∙ beyond (are_digits cs) (value_after m cs) (omega (arith, value_after_ge m cs)))
+
+-- a number with its sign, where it fits
+signed_is : (r : Option ℤ) (z y : ℤ) → SomeIff r (FitsSigned w64 y) y → y ≡ z → r ≡ if_fits (Some z)
+signed_is r z y h e = go r (fits z) refl h
+  where
+    go : (r : Option ℤ) (b : Bool) → fits z ≡ b → SomeIff r (FitsSigned w64 y) y → r ≡ cond b (Some z) None
+    go (Some x) true f h = ap Some (h.1 ∙ e)
+    go (Some x) false f h = let k : ◌≡◌ {A = Bool} true false = sym (fits_from z (record { least = omega (arith, ints, h.0, e); most = omega (arith, ints, h.0, e) })) ∙ f in cc
+    go None true f h = let k = fits_to z f in absurd (h (omega (arith, ints, k.least, k.most, e)))
+    go None false f h = refl
+
+pub positive_is : (r : Option ℤ) (n : ℕ) → SomeIff r (FitsSigned w64 (pos 0 +ℤ pos n)) (pos 0 +ℤ pos n) → r ≡ if_fits (Some (pos n))
+positive_is r n h = signed_is r (pos n) (pos 0 +ℤ pos n) h (omega (arith, ints))
+
+pub negative_is : (r : Option ℤ) (n : ℕ) → SomeIff r (FitsSigned w64 (pos 0 -ℤ pos n)) (pos 0 -ℤ pos n) → r ≡ if_fits (Some (neg_ℤ (pos n)))
+negative_is r n h = signed_is r (neg_ℤ (pos n)) (pos 0 -ℤ pos n) h (omega (arith, ints))
+
+-- a size beyond 2^63 fits with neither sign
+pos_beyond : (n : ℕ) → 2 ^ 63 < n → fits (pos n) ≡ false
+pos_beyond n h = le-ltb n (2 ^ 63) (omega arith)
+
+neg_beyond : (n : ℕ) → 2 ^ 63 < n → fits (neg_ℤ (pos n)) ≡ false
+neg_beyond zero h = absurd (omega arith)
+neg_beyond (suc n) h = and_left (leb n (2 ^ 63 - 1)) (lt_z (negsuc n) (pos (2 ^ 63))) (lt-leb n (2 ^ 63 - 1) (omega arith))
+
+-- what the code's calls give, r at each sign
+pub whole_minus : (t : List ℕ) (o : Option ℕ) (r : Option ℤ) → 0 < length t → get_or t 0 0 ≡ 45 → o ≡ at_most (2 ^ 63) (natural_of (take (length t - 1) (drop 1 t))) → r ≡ if_fits (option_map (λ n. neg_ℤ (pos n)) o) → r ≡ whole_of t
 unfolding whole_of
-parsed [] r h = digits_read pos (λ n. n < 2 ^ 63) pos_within pos_beyond r [] (parse_signed_plain own w64 [] r h (λ e. omega arith) (λ e. omega arith))
-parsed {E} (c ∷ cs) r h = go (eqb c 45) (eqb c 43) refl refl
-  where
-    go : (m p : Bool) → eqb c 45 ≡ m → eqb c 43 ≡ p → result_ok r ≡ if_fits (cond m (option_map (λ n. neg_ℤ (pos n)) (natural_of cs)) (option_map pos (cond p (natural_of cs) (natural_of (c ∷ cs)))))
-    go true p i j = digits_read (λ n. neg_ℤ (pos n)) (λ n. n ≤ 2 ^ 63) neg_within neg_beyond r cs (parse_signed_minus own w64 (c ∷ cs) r h (eqb-true c 45 i))
-    go false true i j = digits_read pos (λ n. n < 2 ^ 63) pos_within pos_beyond r cs (parse_signed_plus own w64 (c ∷ cs) r h (eqb-true c 43 j))
-    go false false i j = digits_read pos (λ n. n < 2 ^ 63) pos_within pos_beyond r (c ∷ cs) (parse_signed_plain own w64 (c ∷ cs) r h (eqb-false c 43 j) (eqb-false c 45 i))
+whole_minus [] o r l e p q = absurd (omega arith)
+whole_minus (c ∷ cs) o r l e p q =
+    q ∙ ap (λ x. if_fits (option_map (λ n. neg_ℤ (pos n)) x)) (p ∙ ap (λ ds. at_most (2 ^ 63) (natural_of ds)) (take_all (length (c ∷ cs) - 1) cs (omega arith))) ∙ at_most_lem (λ n. neg_ℤ (pos n)) neg_beyond (natural_of cs)
+    ∙ ap if_fits (sym (cond-true (eqb c 45) _ _ (eq-eqb c 45 e)))
 
-digits_ascii : {ds : List ℕ} → Digits ds → IsAscii ds
-digits_ascii {ds} d = IsAscii-from_digits ds (own.to ds d.all)
+pub whole_plus : (t : List ℕ) (o : Option ℕ) (r : Option ℤ) → 0 < length t → get_or t 0 0 ≡ 43 → o ≡ at_most (2 ^ 63) (natural_of (take (length t - 1) (drop 1 t))) → r ≡ if_fits (option_map pos o) → r ≡ whole_of t
+unfolding whole_of
+whole_plus [] o r l e p q = absurd (omega arith)
+whole_plus (c ∷ cs) o r l e p q =
+    q ∙ ap (λ x. if_fits (option_map pos x)) (p ∙ ap (λ ds. at_most (2 ^ 63) (natural_of ds)) (take_all (length (c ∷ cs) - 1) cs (omega arith))) ∙ at_most_lem pos pos_beyond (natural_of cs)
+    ∙ ap (λ x. if_fits (option_map pos x)) (sym (cond-true (eqb c 43) (natural_of cs) (natural_of (c ∷ cs)) (eq-eqb c 43 e)))
+    ∙ ap if_fits (sym (cond-false (eqb c 45) _ _ (ne_eqb c 45 (λ h. omega arith))))
 
-spelled_ascii : {t : List ℕ} {n : ℤ} → Spells t n → IsAscii t
-spelled_ascii (plain d) = digits_ascii d
-spelled_ascii (plus {ds} d) = IsAscii-cons 43 ds (omega arith) (digits_ascii d)
-spelled_ascii (minus {ds} d) = IsAscii-cons 45 ds (omega arith) (digits_ascii d)
-
-pub not_text : (t : List ℕ) → ¬ (IsUtf8 t) → None ≡ whole_of t
-not_text t h = go (whole_of t) refl
-  where
-    go : (o : Option ℤ) → whole_of t ≡ o → None ≡ o
-    go None e = refl
-    go (Some n) e = absurd (h (IsUtf8-from_ascii t (spelled_ascii ((reads_what_is_spelled t n).0 e).0)))
-
--- what `from_utf8` gives, s, as an option
-pub not_read : {E : Type 0} (P : Bor (List ℕ) → Type 0) (Q : E → Type 0) (t : List ℕ) (s : Result (Bor (List ℕ)) E) → None ≡ result_ok s → MatchResult s P (λ e. (¬ (IsUtf8 t)) × Q e) → None ≡ whole_of t
-not_read P Q t (Ok x) e h = cc
-not_read P Q t (Err x) e h = not_text t h.0
-
-pub read : {E : Type 0} (P : Type 0) (Q : E → Type 0) (t : List ℕ) (s : Result (Bor (List ℕ)) E) (x : Bor (List ℕ)) → Some x ≡ result_ok s → MatchResult s (λ y. (y.now ≡ t) × P) Q → x.now ≡ t
-read P Q t (Ok y) x e h = let k : x ≡ y = cc in ap (λ b. b.now) k ∙ h.0
-read P Q t (Err y) x e h = cc
+pub whole_plain : (t : List ℕ) (o : Option ℕ) (r : Option ℤ) → (get_or t 0 0 ≡ 45 → ⊥) → (get_or t 0 0 ≡ 43 → ⊥) → o ≡ at_most (2 ^ 63) (natural_of t) → r ≡ if_fits (option_map pos o) → r ≡ whole_of t
+unfolding whole_of
+whole_plain [] o r m e p q = q ∙ ap (λ x. if_fits (option_map pos x)) p
+whole_plain (c ∷ cs) o r m e p q =
+    q ∙ ap (λ x. if_fits (option_map pos x)) p ∙ at_most_lem pos pos_beyond (natural_of (c ∷ cs))
+    ∙ ap (λ x. if_fits (option_map pos x)) (sym (cond-false (eqb c 43) (natural_of cs) (natural_of (c ∷ cs)) (ne_eqb c 43 e)))
+    ∙ ap if_fits (sym (cond-false (eqb c 45) _ _ (ne_eqb c 45 m)))
