@@ -78,6 +78,11 @@ all_more f c stop l = let p : stop - c ≡ suc (stop - (c + 1)) = omega arith in
 pub all_done : (f : ℕ → Value) (c stop : ℕ) → stop ≤ c → written_all f c (stop - c) ≡ []
 all_done f c stop l = let p : stop - c ≡ 0 = omega arith in rw p
 
+-- the text of a record that holds no other
+pub alone : (t : Tray) (i : ℕ) (r : Record) → r ≡ record_of t i → (first stop : ℕ) → first ≡ first_of r → stop ≡ first_of r + width_of r → stop ≤ first → written (value_of t i) ≡ leaf_text t.text.now (record_of t i)
+alone t i r e first stop ef es l =
+    text_is t i r e first stop ef es ∙ ap (λ ds. leaf_text t.text.now (record_of t i) ++ ds) (all_done (value_of t) first stop l) ∙ append-nil _
+
 -- the text of an array
 pub array_text_joined : ArrayTextJoined
 array_text_joined none = refl

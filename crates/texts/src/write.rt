@@ -37,6 +37,10 @@ pub fn write_text(tray: &Tray, i: usize, out: &mut [u8]) -> Option<usize>
     ensures written { Lays (written (value_of tray.now i)) out.old out.new result }
     ensures joined { ArrayTextJoined }
 {
+    // What holds no other is laid in one pass.
+    if tray.record(i).holds().is_empty() {
+        return write_leaf(tray, i, out);
+    }
     text_len(tray, i, out.len())?;
     Some(fill(tray, i, out, 0))
 }
