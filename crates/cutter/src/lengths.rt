@@ -10,7 +10,7 @@ use numerals::read_whole;
 // The classes of bytes: blanks, digits, what a name begins with, what it goes on with, quotes, one byte, and all but one.
 // An enum and no closure, since the definitions speak of the classes by name.
 #[derive(Clone, Copy, Debug, PartialEq, Eq)]
-pub(crate) enum Class {
+pub enum Class {
     Blank,
     Digit,
     Initial,
@@ -150,6 +150,7 @@ impl<'a> Place<'a> {
         }
     }
 
+    #[inline(always)]
     #[tactic(auto, unfolding(crate::specs::Lengths::step_length))]
     pub(crate) fn step(self) -> Option<Self>
         ensures { Behind step_length self.entry result }
@@ -212,6 +213,7 @@ impl<'a> Place<'a> {
             .skip(b')')
     }
 
+    #[inline(always)]
     #[tactic(auto, unfolding(crate::specs::Lengths::symbol_length))]
     fn symbol(self) -> Option<Self>
         ensures { Behind symbol_length self.entry result }
@@ -245,6 +247,7 @@ fn is_literal(word: &[u8]) -> bool
 }
 
 // The symbol that the bytes begin with.
+#[inline(always)]
 pub(crate) fn symbol_of(bytes: &[u8]) -> Option<Symbol>
     ensures { result ≡ symbol_of (slice_index bytes.now 0) (slice_index bytes.now 1) }
 {

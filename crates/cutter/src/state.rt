@@ -11,7 +11,7 @@ pub enum Kind {
 
 // In text, behind a `{` of it, in a mark outside quotes, behind the first byte of its closing mark there, or in a quotation by that quote.
 #[derive(Clone, Copy, Debug, PartialEq, Eq)]
-pub(crate) enum State {
+pub enum State {
     Text,
     Brace,
     Inside(Kind),
@@ -21,7 +21,7 @@ pub(crate) enum State {
 
 // What the byte does: it goes on with the piece, makes an opening mark whole, or a closing one.
 #[derive(Clone, Copy, Debug, PartialEq, Eq)]
-pub(crate) enum Event {
+pub enum Event {
     Goes,
     Opens,
     Closes(Kind),

@@ -135,7 +135,7 @@ fn counted(heap: Global, bytes: &[u8], cited: &[u8]) -> Result<String, Wrong> {
 fn nils(heap: Global, count: usize) -> Result<String, Wrong> {
     let [low, high, ..] = count.to_le_bytes();
     let mut bytes = Vec::from_slice(heap, &[5, 1, 0, 1, 0, 3, 0, 0, 0, 0, 4, 3, 0, low, high])?;
-    bytes.extend_from_slice(vec![in heap; 0; count]?.as_slice())?;
+    bytes.resize(bytes.len().saturating_add(count), 0)?;
     counted(heap, bytes.as_slice(), b"")
 }
 
