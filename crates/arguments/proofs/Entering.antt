@@ -1,6 +1,6 @@
 -- Names that enter.
-use Rattle.std.proofs.Common.{◌≡◌, ℕ, ◌+◌, ◌<◌, ◌≤◌, Bool, true, false, cond, ◌&&◌, ◌⊎◌, inl, inr, ltb, leb, List, [], ◌∷◌, map, length, Some, None, Ok, Err, Result, refl, ap, ◌∙◌}
-use Rattle.std.specs.Result.{is_err, IsOk}
+use Rattle.std.proofs.Common.{◌≡◌, ℕ, ◌+◌, ◌<◌, ◌≤◌, Bool, true, false, cond, ◌&&◌, ◌⊎◌, inl, inr, ltb, leb, List, [], ◌∷◌, map, length, Some, None, Option, refl, ap, subst, ◌∙◌}
+use Rattle.std.specs.Option.{IsSome}
 use Rattle.std.proofs.lemmas.Bool.{false≢true, leb-true, leb-false, le-leb, lt-leb, lt-ltb, le-ltb, and_left, and_right, and_from}
 use Rattle.std.specs.List.{position_from}
 use Rattle.rows.specs.First.{first_from}
@@ -64,10 +64,9 @@ module _ (p : ℕ) (c : CycleName) (s : State) where
       ∙ ap (λ b. cond b (passes (length s.lists.cycles) (state s.ahead (with_cycle c s.lists))) (refuses 2 p)) (lt-ltb (length s.lists.cycles) 32 k)
 
 -- what does not fit in so many places is longer
-pub too_long : {T E : Type 0} (r : Result T E) (n k : ℕ) → is_err r ≡ true → (n ≤ k → IsOk r) → k < n
-too_long (Ok x) n k e h = absurd (false≢true e)
-too_long (Err x) n k e h = by_test (leb n k) refl
+pub too_long : {T : Type 0} (o : Option T) (n k : ℕ) → o ≡ None → (n ≤ k → IsSome o) → k < n
+too_long o n k e h = by_test (leb n k) refl
   where
     by_test : (b : Bool) → leb n k ≡ b → k < n
-    by_test true t = absurd (false≢true (h (leb-true n k t)))
+    by_test true t = absurd (false≢true (subst IsSome e (h (leb-true n k t))))
     by_test false t = leb-false n k t

@@ -6,3 +6,4 @@ pub mod Tables
 pub mod Reading
 pub mod Marks
 pub mod Lengths
+pub mod Names

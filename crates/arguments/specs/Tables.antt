@@ -15,6 +15,7 @@ use Rattle.arguments.specs.declared.reader.Reader.{Reader}
 use Rattle.arguments.specs.declared.refusals.Stop.{Stop}
 use Rattle.arguments.specs.declared.refusals.Stop.TheVariants.{Refused, Memory}
 use Rattle.arguments.specs.Judging.{CycleName, Asked, Lists, State, state, Verdict, refuses, passes, Seen, seen}
+use Rattle.arguments.specs.Names.{bytes_of}
 use Rattle.arguments.specs.Refusals.{number_of}
 
 -- the bytes of a part of the source
@@ -29,8 +30,8 @@ abbrev pub made_name : List ℕ → CycleName
 made_name b = record { given = false; bytes = b }
 
 abbrev pub cycle_of : code.CycleName → CycleName
-cycle_of (Given b) = given_name b.items
-cycle_of (Made b) = made_name b.items
+cycle_of (Given b) = given_name (bytes_of b)
+cycle_of (Made b) = made_name (bytes_of b)
 
 abbrev pub asked_in : List ℕ → Filter → Asked
 asked_in source f = record { place = f.name.place; name = part_in source f.name }

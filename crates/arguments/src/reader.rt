@@ -3,7 +3,7 @@ ghost use Rattle.std.specs.Prelude.{◌≡◌, ◌≤◌, true, vec_len};
 ghost use Rattle.cutter.specs.Ahead.{ahead};
 ghost use Rattle.arguments.specs.Standing.{standing};
 
-use arrayvec::ArrayVec;
+use crate::reader::names::NameBytes;
 use cutter::tokens::Cursor;
 use nodes::exprs::{Expr, Filter, Part, Step};
 use nodes::table::Node;
@@ -13,14 +13,15 @@ pub mod entries;
 pub mod lengths;
 pub mod lists;
 pub mod marks;
+pub mod names;
 pub mod values;
 pub mod words;
 
 /// A cycle name of at most 128 bytes: given in the tag, or made of its values.
-#[derive(Clone, Debug, PartialEq, Eq, Drop)]
+#[derive(Clone, Copy, Debug, PartialEq, Eq)]
 pub enum CycleName {
-    Given(ArrayVec<u8, 128>),
-    Made(ArrayVec<u8, 128>),
+    Given(NameBytes),
+    Made(NameBytes),
 }
 
 /// The source and the tables that it is read into; and the tokens of the mark at `mark` that are ahead.

@@ -5,9 +5,9 @@ ghost use Rattle.tray.specs.Parts.{same_text};
 ghost use Rattle.arguments.specs.Judging.{enter, same_cycle, enter_cycle};
 ghost use Rattle.arguments.specs.Tables.{part_in, cycle_of, given_name, made_name, under, Said, Grown, Below};
 
+use crate::reader::names::NameBytes;
 use crate::reader::{CycleName, Reader};
 use crate::refusals::{Refusal, Stop};
-use arrayvec::ArrayVec;
 use nodes::exprs::Part;
 use tray::parts::{cut, same_text};
 
@@ -64,11 +64,13 @@ impl<'a> Reader<'a> {
         Ok(k)
     }
     // The number of this cycle name.
-    fn cycle_number(&self, name: &CycleName) -> Option<usize>
-        ensures is { result ≡ first_from (λ d. same_cycle d (cycle_of name.now)) 0 (map cycle_of self.now.cycles.items) }
+    fn cycle_number(&self, name: CycleName) -> Option<usize>
+        ensures is { result ≡ first_from (λ d. same_cycle d (cycle_of name)) 0 (map cycle_of self.now.cycles.items) }
         ensures below { IfSome result (λ k. k < length self.now.cycles.items) }
     {
-        self.cycles.iter().position(|cycle| same_cycle(cycle, name))
+        self.cycles
+            .iter()
+            .position(|cycle| same_cycle(cycle, &name))
     }
 
     // The number of the cycle name, which enters where it is new; what is refused has the place `place`.
@@ -77,7 +79,7 @@ impl<'a> Reader<'a> {
         ensures says { Said result (enter_cycle place (cycle_of name) (under self.old)) (Below (length self.new.cycles.items)) (under self.new) }
         ensures grown { Grown self.old self.new }
     {
-        if let Some(k) = self.cycle_number(&name) {
+        if let Some(k) = self.cycle_number(name) {
             return Ok(k);
         }
         let k = self.cycles.len();
@@ -93,10 +95,7 @@ impl<'a> Reader<'a> {
         ensures says { Said result (enter_cycle place (given_name bytes.now) (under self.old)) (Below (length self.new.cycles.items)) (under self.new) }
         ensures grown { Grown self.old self.new }
     {
-        let mut name = ArrayVec::new();
-        if name.try_extend_from_slice(bytes).is_err() {
-            return Err(Stop::Refused(Refusal::Limit, place));
-        }
+        let name = NameBytes::new(bytes).ok_or(Stop::Refused(Refusal::Limit, place))?;
         self.enter_cycle(place, CycleName::Given(name))
     }
 
@@ -105,10 +104,7 @@ impl<'a> Reader<'a> {
         ensures says { Said result (enter_cycle place (made_name bytes.now) (under self.old)) (Below (length self.new.cycles.items)) (under self.new) }
         ensures grown { Grown self.old self.new }
     {
-        let mut name = ArrayVec::new();
-        if name.try_extend_from_slice(bytes).is_err() {
-            return Err(Stop::Refused(Refusal::Limit, place));
-        }
+        let name = NameBytes::new(bytes).ok_or(Stop::Refused(Refusal::Limit, place))?;
         self.enter_cycle(place, CycleName::Made(name))
     }
 }

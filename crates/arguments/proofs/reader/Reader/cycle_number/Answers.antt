@@ -11,7 +11,7 @@ use Rattle.arguments.proofs.reader.Reader.cycle_number.Goals as goal
 pub returns-clause-is : goal.returns-clause-is
 returns-clause-is c =
     let cycles = vec_items c.args.self.now.cycles in
-    let name = cycle_of c.args.name.now in
+    let name = cycle_of c.args.name in
     let test = λ (x : CycleName). same_cycle (cycle_of x) name in
     position_from_yields_List test _ _ c.position.result c.position.ensures.ran (YieldsList-from_slice cycles cc) (λ x b q k. search rules)
     ∙ position_from-zero test cycles ∙ first_position test 0 cycles ∙ sym (first_map (λ d. same_cycle d name) cycle_of 0 cycles)

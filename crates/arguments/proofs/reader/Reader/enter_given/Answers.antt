@@ -1,10 +1,10 @@
-use Rattle.std.proofs.Common.{length, sym, ap, ◌∙◌, arith}
+use Rattle.std.proofs.Common.{rules, length}
 use Rattle.arguments.specs.Tables.{given_name, under}
 use Rattle.arguments.proofs.Entering.{cycle_long, too_long}
 use Rattle.arguments.proofs.reader.Reader.enter_given.Goals as goal
 
-pub returns-then-is_err-clause-says : goal.returns-then-is_err-clause-says
-returns-then-is_err-clause-says c =
+pub returns-in_err-name-clause-says : goal.returns-in_err-name-clause-says
+returns-in_err-name-clause-says c =
     let b = c.args.bytes.now in
-    cycle_long c.args.place (given_name b) (under c.args.self.now)
-    (too_long c.try_extend_from_slice.result (length b) 128 (sym c.is_err.ensures.value ∙ c.if-is_err.true) (λ h. c.try_extend_from_slice.ensures.variant.1 (omega (arith, ap length c.new-name.ensures))))
+    let long = cycle_long c.args.place (given_name b) (under c.args.self.now) (too_long c.new.result (length b) 128 c.in_err-name.ensures.ok_part c.new.ensures.fits.1) in
+    search rules
