@@ -39,11 +39,11 @@ text_spells (pos n) f =
 text_spells (negsuc n) f =
     subst (λ (v : ℕ). Spells (45 ∷ natural_text (suc n)) (neg_ℤ (pos v))) (text_value (suc n) (omega (arith, neg_fits n f))) (minus (text_digits (suc n) (omega (arith, neg_fits n f))))
 
-pub natural_from : (ds : List ℕ) → Digits ds → natural_of ds ≡ Some (value_of ds)
+natural_from : (ds : List ℕ) → Digits ds → natural_of ds ≡ Some (value_of ds)
 natural_from [] d = absurd (omega (arith, d.some))
 natural_from (c ∷ cs) d = cond-true (are_digits (c ∷ cs)) (Some (value_of (c ∷ cs))) None d.all
 
-pub natural_to : (ds : List ℕ) (n : ℕ) → natural_of ds ≡ Some n → Digits ds × (n ≡ value_of ds)
+natural_to : (ds : List ℕ) (n : ℕ) → natural_of ds ≡ Some n → Digits ds × (n ≡ value_of ds)
 natural_to [] n e = let z : ◌≡◌ {A = ℕ} 0 1 = cc in absurd (omega arith)
 natural_to (c ∷ cs) n e = go (are_digits (c ∷ cs)) refl e
   where

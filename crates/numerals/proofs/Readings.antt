@@ -1,14 +1,12 @@
 -- Reading digits by a loop: what is left gives the answer. Then the sign.
 use lib.Signed.{lt_z}
-use Rattle.std.proofs.Common.{◌≡◌, ℕ, zero, suc, ◌+◌, ◌-◌, ◌*◌, ◌^◌, ◌<◌, ◌≤◌, Bool, true, false, cond, ◌&&◌, eqb, leb, ◌⊎◌, List, [], ◌∷◌, length, get_or, take, drop, ℤ, pos, negsuc, neg_ℤ, ◌+ℤ◌, ◌-ℤ◌, FitsSigned, Some, None, Option, sym, refl, ap, ◌∙◌, inl, inr, arith, w64}
-use Rattle.std.specs.Option.{option_map, SomeIff}
-use Rattle.std.proofs.lemmas.Int.{ints}
+use Rattle.std.proofs.Common.{◌≡◌, ℕ, zero, suc, ◌+◌, ◌-◌, ◌*◌, ◌^◌, ◌<◌, ◌≤◌, Bool, true, false, cond, ◌&&◌, eqb, leb, ◌⊎◌, List, [], ◌∷◌, length, get_or, take, drop, ℤ, pos, negsuc, neg_ℤ, Some, None, Option, sym, refl, ap, ◌∙◌, inl, inr, arith}
+use Rattle.std.specs.Option.{option_map}
 use Rattle.std.proofs.lemmas.List.{take_all, drop_all, drop_more}
 use Rattle.std.proofs.lemmas.Bool.{le-leb, lt-leb, le-ltb, and_from, and_left, and_right, cond-true, cond-false, eq-eqb, ne_eqb}
 use Rattle.numerals.specs.Decimal.{is_digit, are_digits, value_after, natural_of, fits, if_fits, whole_of}
 use Rattle.numerals.specs.Bounds.{at_most}
 use Rattle.numerals.proofs.Bounded.{at_most_lem}
-use Rattle.numerals.proofs.Lawful.{fits_from, fits_to}
 
 -- what digits come to after others of the value n
 abbrev read_on : ℕ → List ℕ → Option ℕ
@@ -63,22 +61,6 @@ module _ {text : List ℕ} {i n : ℕ} (r : Reading text i n) (l : i < length te
       let cs = drop (i + 1) text in
       let m = n * 10 + (get_or text i 0 - 48) in
       sym (at ∙ ap (at_most (2 ^ 63)) (read_digit n (get_or text i 0) cs p q) ∙ beyond (are_digits cs) (value_after m cs) (omega (arith, value_after_ge m cs)))
-
--- a number with its sign, where it fits
-signed_is : (r : Option ℤ) (z y : ℤ) → SomeIff r (FitsSigned w64 y) y → y ≡ z → r ≡ if_fits (Some z)
-signed_is r z y h e = go r (fits z) refl h
-  where
-    go : (r : Option ℤ) (b : Bool) → fits z ≡ b → SomeIff r (FitsSigned w64 y) y → r ≡ cond b (Some z) None
-    go (Some x) true f h = ap Some (h.1 ∙ e)
-    go (Some x) false f h = let k : ◌≡◌ {A = Bool} true false = sym (fits_from z (record { least = omega (arith, ints, h.0, e); most = omega (arith, ints, h.0, e) })) ∙ f in cc
-    go None true f h = let k = fits_to z f in absurd (h (omega (arith, ints, k.least, k.most, e)))
-    go None false f h = refl
-
-pub positive_is : (r : Option ℤ) (n : ℕ) → SomeIff r (FitsSigned w64 (pos 0 +ℤ pos n)) (pos 0 +ℤ pos n) → r ≡ if_fits (Some (pos n))
-positive_is r n h = signed_is r (pos n) (pos 0 +ℤ pos n) h (omega (arith, ints))
-
-pub negative_is : (r : Option ℤ) (n : ℕ) → SomeIff r (FitsSigned w64 (pos 0 -ℤ pos n)) (pos 0 -ℤ pos n) → r ≡ if_fits (Some (neg_ℤ (pos n)))
-negative_is r n h = signed_is r (neg_ℤ (pos n)) (pos 0 -ℤ pos n) h (omega (arith, ints))
 
 -- a size beyond 2^63 fits with neither sign
 pos_beyond : (n : ℕ) → 2 ^ 63 < n → fits (pos n) ≡ false

@@ -118,9 +118,12 @@ impl Job {
     // Reads the actions of `text`, up to the first line that is none.
     pub(crate) fn read(&mut self, rt: &HostRuntime, text: &[u8]) -> Result<(), JobError> {
         for (number, line) in text.split(|b| *b == b'\n').enumerate() {
-            let cursor = Cursor::new(number, line);
-            if let Some(action) = read_line(rt, cursor, &mut self.source)? {
-                self.actions.push(action)?;
+            let mut cursor = Cursor::new(number, line);
+            cursor.skip_blanks();
+            // A line with nothing on it, or a comment, has no action.
+            if !matches!(cursor.peek(), None | Some(b'#')) {
+                self.actions
+                    .push(read_action(rt, cursor, &mut self.source)?)?;
             }
         }
         Ok(())
@@ -138,16 +141,12 @@ impl Job {
     }
 }
 
-// The action of a line; a comment has none.
-fn read_line(
+// The action of a line whose first word is ahead.
+fn read_action(
     rt: &HostRuntime,
     mut cursor: Cursor<'_>,
     source: &mut Vec<u8>,
-) -> Result<Option<Action>, JobError> {
-    cursor.skip_blanks();
-    if let None | Some(b'#') = cursor.peek() {
-        return Ok(None);
-    }
+) -> Result<Action, JobError> {
     let at = cursor.at();
     // A `match` on the words of a language is its table; closures would say no more.
     let action = match cursor.word() {
@@ -170,7 +169,7 @@ fn read_line(
         b"bench" => Action::Bench(read_bench(rt.alloc(), cursor)?),
         _ => return Err(at.bad(Fault::UnknownWord)),
     };
-    Ok(Some(action))
+    Ok(action)
 }
 
 // The next word and its place; a fault where the line ends before one.

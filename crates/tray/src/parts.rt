@@ -8,9 +8,13 @@ use crate::records::Record;
 pub fn cut(text: &[u8], place: usize, len: usize) -> &[u8]
     ensures { result.now ≡ cut_out text.now place len }
 {
-    // `get` was here: its two tests for each text made a search for a key twice as long.
-    let rest = &text[place.min(text.len())..];
-    &rest[..len.min(rest.len())]
+    // `get` in place of the two tests made a search for a key twice as long.
+    let rest = if place < text.len() {
+        &text[place..]
+    } else {
+        &text[..0]
+    };
+    if len < rest.len() { &rest[..len] } else { rest }
 }
 
 // The bytes of a text record; of any other, none.
